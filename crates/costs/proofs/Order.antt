@@ -7,7 +7,7 @@ use native.Mathlib.Nat as Nat
 use native.Mathlib.Omega.{arith}
 use mathlib.Core.Bool.{Bool, true, false, not, _&&_, _||_}
 use lib.IntN.{ℤ}
-use lib.Dec.{T, leb, ltb, eqb, leb→le, le→leb, ltb→lt, lt→ltb, nleb→lt, eqb→eq, not-T}
+use lib.Dec.{T, leb, ltb, eqb, leb→le, le→leb, ltb→lt, lt→ltb, nleb→lt, eqb→eq, not-T, T-not}
 use lib.Ieee.{Float, inf, fin, Format, prec, low, up, down, hid, size, lt, le, fits, toBits, ofBits}
 use lib.Ieee.Bits.{is-true, ofBits-toBits}
 use lib.Ieee.Fits.{down-pos, eq→eqb, and-i, and-l}
@@ -179,6 +179,18 @@ not-lt→le x y a b h = back (le y x) (subst (λ (p : Bool). T (not p)) (lt-is x
 
 pub le→not-lt : (x y : Float) → T (cost x) → T (cost y) → T (le y x) → lt x y ≡ false
 le→not-lt x y a b h = lt-is x y a b ∙ ap not (is-true (le y x) h)
+
+pub lt→not-le : (x y : Float) → T (cost x) → T (cost y) → T (lt x y) → T (le y x) → ⊥
+lt→not-le x y a b h k = T-not (le y x) (subst (λ (p : Bool). T p) (lt-is x y a b) h) k
+
+pub not-le→lt : (x y : Float) → T (cost x) → T (cost y) → (T (le y x) → ⊥) → T (lt x y)
+not-le→lt x y a b h = subst (λ (p : Bool). T p) (sym (lt-is x y a b)) (not-T (le y x) h)
+
+pub lt-le-trans : (x y z : Float) → T (cost x) → T (cost y) → T (cost z) → T (lt x y) → T (le y z) → T (lt x z)
+lt-le-trans x y z a b c h k = not-le→lt x z a c (λ (l : T (le z x)). lt→not-le x y a b h (le-trans y z x b c a k l))
+
+pub le-lt-trans : (x y z : Float) → T (cost x) → T (cost y) → T (cost z) → T (le x y) → T (lt y z) → T (lt x z)
+le-lt-trans x y z a b c h k = not-le→lt x z a c (λ (l : T (le z x)). lt→not-le y z b c k (le-trans z x y c a b l h))
 
 pub le-total : (x y : Float) → T (cost x) → T (cost y) → T (le x y) ⊎ T (le y x)
 le-total x y a b = go (lt x y) (lt→le x y) (not-lt→le x y a b)
