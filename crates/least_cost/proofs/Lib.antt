@@ -3,3 +3,6 @@ pub mod First
 pub mod Trial
 pub mod Step
 pub mod Best
+pub mod Counts
+pub mod Whole
+pub mod Infinite
