@@ -1,10 +1,10 @@
 -- The recursion finds a least cost. Where `best` is finite, the walked levels are a choice in the band that costs exactly that; no choice in the band costs less; and `best` is
 -- infinite exactly where every choice in the band is. All this by the count and `prev` that `best` is asked for, and as soon as every price is a cost. Assumes nothing.
-use mathlib.Core.Path.{_≡_, refl, sym, ap, ap₂, _∙_, subst, subst⁻¹, subst₂}
+use mathlib.Core.Path.{_≡_, refl, sym, ap, ap₂, _∙_, subst, subst⁻¹}
 use mathlib.Core.Logic.{_↔_}
 use Prim.Native.Nat.{ℕ, _+_, _-_, _≤_}
 use native.Mathlib.Nat.{add-sub-of-le, add-sub-cancel-left, le-add-right}
-use mathlib.Core.Bool.{Bool, true, false, not, _&&_, cond}
+use mathlib.Core.Bool.{Bool, true, false, not, cond}
 use mathlib.Core.List.{List, [], _∷_, List·Memᴰ as Mem, List·Memᴰ·head as here, List·Memᴰ·tail as there}
 use lib.IntN.{ℤ, pos}
 use lib.Dec.{T, eqb, eqb→eq, eqb-refl}
@@ -18,7 +18,7 @@ use Rattle.costs.proofs.Order as Order
 use Rattle.costs.proofs.Sum.{add-cost, add-mono-right}
 use Rattle.least_cost.specs.Position.{Position, Tail, Priced, nz, within, allowed}
 use Rattle.least_cost.specs.Choice.{Choice, done, takes, remaining, inBand, costOf}
-use Rattle.least_cost.specs.Search.{least, holder, trial, step, best, pick, walk}
+use Rattle.least_cost.specs.Search.{least, trial, step, best, pick, walk}
 use Rattle.least_cost.proofs.First.{Found, found-mem, finite-found, least-cost, least-le}
 use Rattle.least_cost.proofs.Trial.{nz-le, trial-listed, listed-trial}
 use Rattle.least_cost.proofs.Step.{Costs, allow, allowed-among, allowed-within, step-at, step-allowed, step-cost, step-rest}

@@ -6,19 +6,19 @@ use Prim.Native.Nat.{ℕ, suc, _+_, _*_, _^_, _≤_, _<_}
 use native.Mathlib.Nat.{add-zero, lt-of-le-of-lt, mul-le-mul-right}
 use native.Mathlib.Omega.{arith}
 use mathlib.Core.Bool.{Bool, true, false, not, _||_, true≢false}
-use mathlib.Core.List.{List, [], _∷_, List·Memᴰ as Mem, List·Memᴰ·head as here, List·Memᴰ·tail as there}
+use mathlib.Core.List.{List, _∷_, List·Memᴰ as Mem, List·Memᴰ·head as here, List·Memᴰ·tail as there}
 use lib.IntN.{ℤ}
 use lib.Dec.{T}
 use lib.ListN.{length}
 use lib.Ieee.{Float, inf, binary32, prec, add}
 use lib.Ieee.Fits.{and-l, and-r}
 use lib.Ieee.Scale.{finite, overflow}
-use Rattle.costs.specs.Cost.{cost, capped}
+use Rattle.costs.specs.Cost.{capped}
 use Rattle.costs.proofs.Order as Order
 use Rattle.costs.proofs.Order.{same-test}
 use Rattle.costs.proofs.Sum.{finite-terms}
 use Rattle.costs.proofs.Bound.{capped-cost, add-capped, add-finite}
-use Rattle.least_cost.specs.Position.{Position, Tail, Priced, nz, within, allowed}
+use Rattle.least_cost.specs.Position.{Position, Tail, nz, within, allowed}
 use Rattle.least_cost.specs.Choice.{Choice, done, takes, remaining, inBand, costOf, hasInfinite}
 use Rattle.least_cost.specs.Search.{Problem, countOf, wholeCost, wholeInfinite, leastTotal}
 use Rattle.least_cost.proofs.Trial.{nz-le}

@@ -1,7 +1,7 @@
 -- One step of the recursion: what it costs, and when it is finite. Assumes nothing.
-use mathlib.Core.Path.{_≡_, refl, sym, ap, _∙_, subst, subst⁻¹}
+use mathlib.Core.Path.{_≡_, refl, ap, subst}
 use Prim.Native.Nat.{ℕ, _-_, _≤_}
-use mathlib.Core.Bool.{Bool, true, false, _&&_, cond}
+use mathlib.Core.Bool.{Bool, true, false, cond}
 use mathlib.Core.List.{List·Memᴰ as Mem}
 use lib.IntN.{ℤ}
 use lib.Dec.{T, leb, leb→le, le→leb}

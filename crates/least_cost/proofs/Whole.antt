@@ -1,6 +1,6 @@
 -- The whole search, over the count: where its least cost is finite, its levels are a choice in the band that costs exactly that, no choice in the band costs less, and none with a smaller
 -- count costs as little. The least cost is infinite exactly where every choice in the band is. Assumes nothing.
-use mathlib.Core.Path.{_≡_, refl, sym, ap, ap₂, _∙_, subst, subst⁻¹}
+use mathlib.Core.Path.{_≡_, sym, ap, _∙_, subst, subst⁻¹}
 use mathlib.Core.Logic.{_↔_}
 use Prim.Native.Nat.{ℕ, _≤_, _<_}
 use mathlib.Core.Bool.{Bool, true, false, not}
@@ -13,8 +13,8 @@ use Rattle.costs.specs.Cost.{cost}
 use Rattle.costs.proofs.View.{at-inf, viewed}
 use Rattle.costs.proofs.Order as Order
 use Rattle.costs.proofs.Sum.{add-cost, add-mono-left, finite-terms}
-use Rattle.least_cost.specs.Choice.{Choice, remaining, inBand, costOf}
-use Rattle.least_cost.specs.Search.{Problem, best, walk, countOf, wholeCost, total, upFrom, leastTotal, leastCount, leastLevels}
+use Rattle.least_cost.specs.Choice.{Choice, inBand, costOf}
+use Rattle.least_cost.specs.Search.{Problem, best, countOf, wholeCost, total, upFrom, leastTotal, leastCount, leastLevels}
 use Rattle.least_cost.proofs.First.{Found, found-mem, finite-found, least-cost, least-le}
 use Rattle.least_cost.proofs.Best.{AllPriced, Walked, best-costs, choice-cost, walked, none-less}
 use Rattle.least_cost.proofs.Counts.{Between, tried-between, between-tried, smaller-before}

@@ -1,6 +1,6 @@
 -- The search for a least cost, from the last position to the first, and the walk that reads the chosen levels off. Assumes nothing.
 use Prim.Native.Nat.{ℕ, zero, suc, _-_}
-use mathlib.Core.Bool.{Bool, true, false, not, _||_, cond}
+use mathlib.Core.Bool.{Bool, false, not, _||_, cond}
 use mathlib.Core.List.{List, [], _∷_, _++_}
 use lib.IntN.{ℤ, pos}
 use lib.Dec.{eqb}
