@@ -4,6 +4,8 @@ pub mod Trial
 pub mod Step
 pub mod Best
 pub mod Row
+pub mod Factored
+pub mod Nonzero
 pub mod Range
 pub mod Counts
 pub mod Whole

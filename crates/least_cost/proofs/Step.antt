@@ -41,6 +41,10 @@ step-at q r p b c h = go (allowed q r c) h
     go true t = refl
     go false t = absurd t
 
+pub step-barred : (q : Position) (r p : ℕ) (b : ℕ → ℕ → Float) (c : ℤ) → allowed q r c ≡ false → step q r p b c ≡ inf false
+unfolding step
+step-barred q r p b c e = ap (λ (k : Bool). cond k (add binary32 (q .price r p c) (b (r - nz c) (nz c))) (inf false)) e
+
 pub step-allowed : (q : Position) (r p : ℕ) (b : ℕ → ℕ → Float) (c : ℤ) → T (finite (step q r p b c)) → T (allowed q r c)
 unfolding step
 step-allowed q r p b c = go (allowed q r c)

@@ -111,7 +111,7 @@ listed-trial cs c m = go (isZero c) (is-zero c) (listed-zero cs c m) (listed-non
     go false z h n = append-left (cond (hasZero cs) (pos 0 ∷ []) []) (n tt)
 
 -- ---- 0 comes last
-nonzeros-count : (cs : List ℤ) (c : ℤ) → Mem c (nonzeros cs) → nz c ≡ 1
+pub nonzeros-count : (cs : List ℤ) (c : ℤ) → Mem c (nonzeros cs) → nz c ≡ 1
 unfolding nonzeros isZero
 nonzeros-count [] c m = absurd (not-nil m)
 nonzeros-count (d ∷ cs) c m = go (isZero d) (counts-one d) (nonzeros-count cs c) m
