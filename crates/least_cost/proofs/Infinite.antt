@@ -1,12 +1,12 @@
 -- Where no sum can overflow, a cost is infinite exactly where one of its terms is. The bound: each local cost, and what the count costs, is infinite or at most 2 ^ j of binary32's smallest
 -- values, and the tail infinite or at most b * 2 ^ j of them. Then n positions cost at most (b + n) * 2 ^ j, as long as that has no more digits than the format keeps. Assumes nothing.
 use mathlib.Core.Path.{_≡_, refl, sym, ap, _∙_, subst, subst⁻¹}
-use mathlib.Core.Logic.{_↔_}
+use mathlib.Core.Logic.{_↔_, _⊎_, inl, inr}
 use Prim.Native.Nat.{ℕ, suc, _+_, _*_, _^_, _≤_, _<_}
 use native.Mathlib.Nat.{add-zero, lt-of-le-of-lt, mul-le-mul-right}
 use native.Mathlib.Omega.{arith}
 use mathlib.Core.Bool.{Bool, true, false, not, _||_, true≢false}
-use mathlib.Core.List.{List, _∷_, List·Memᴰ as Mem, List·Memᴰ·head as here, List·Memᴰ·tail as there}
+use mathlib.Core.List.{List, [], _∷_, List·Memᴰ as Mem, List·Memᴰ·head as here, List·Memᴰ·tail as there, List·Memᴰ·cases-cons as cases-cons, List·Memᴰ·not-nil as not-nil}
 use lib.IntN.{ℤ}
 use lib.Dec.{T}
 use lib.ListN.{length}
@@ -35,18 +35,32 @@ less-room : {j m : ℕ} (k : ℕ) → k ≤ m → Room j m → Room j k
 less-room {j} {m} k h R = record { digits = lt-of-le-of-lt h (R .digits); under = lt-of-le-of-lt (mul-le-mul-right (2 ^ j) h) (R .under) }
 
 -- every local cost is infinite or at most 2 ^ j, the tail infinite or at most b * 2 ^ j
+pub record OneCapped (j : ℕ) (q : Position) : Type 0 where
+  pub prices : (r p : ℕ) (c : ℤ) → p ≤ 1 → Mem c (q .candidates) → T (allowed q r c) → T (capped binary32 1 j (q .price r p c))
+
 pub record AllCapped (j b : ℕ) (t : Tail) (qs : List Position) : Type 0 where
   pub tails : (p : ℕ) → p ≤ 1 → T (capped binary32 b j (t .cost p))
-  pub each : (q : Position) → Mem q qs → (r p : ℕ) (c : ℤ) → p ≤ 1 → Mem c (q .candidates) → T (allowed q r c) → T (capped binary32 1 j (q .price r p c))
+  pub each : (q : Position) → Mem q qs → OneCapped j q
 
 rest-capped : {j b : ℕ} {t : Tail} {q : Position} {qs : List Position} → AllCapped j b t (q ∷ qs) → AllCapped j b t qs
 rest-capped Q = record { tails = Q .tails; each = λ x m. Q .each x (there m) }
+
+-- to show it, position by position
+pub none-capped : {j b : ℕ} {t : Tail} → ((p : ℕ) → p ≤ 1 → T (capped binary32 b j (t .cost p))) → AllCapped j b t []
+none-capped h = record { tails = h; each = λ x m. absurd (not-nil m) }
+
+pub more-capped : {j b : ℕ} {t : Tail} {q : Position} {qs : List Position} → OneCapped j q → AllCapped j b t qs → AllCapped j b t (q ∷ qs)
+more-capped {j} {b} {t} {q} {qs} h Q = record { tails = Q .tails; each = λ x m. front x (cases-cons m) }
+  where
+    front : (x : Position) → (x ≡ q) ⊎ Mem x qs → OneCapped j x
+    front x (inl e) = subst⁻¹ (OneCapped j) e h
+    front x (inr m) = Q .each x m
 
 -- then every price is a cost
 pub capped-priced : {j b : ℕ} {t : Tail} {qs : List Position} → AllCapped j b t qs → AllPriced t qs
 capped-priced {j} {b} {t} {qs} Q = record {
   tails = λ p P. capped-cost binary32 b j (t .cost p) (Q .tails p P);
-  each = λ q m. record { prices = λ r p c P k a. capped-cost binary32 1 j (q .price r p c) (Q .each q m r p c P k a) };
+  each = λ q m. record { prices = λ r p c P k a. capped-cost binary32 1 j (q .price r p c) (Q .each q m .prices r p c P k a) };
 }
 
 -- ---- one term more
@@ -100,7 +114,7 @@ module _ (j b : ℕ) (t : Tail) where
       let M : Room j (1 + (b + n)) = subst⁻¹ (Room j) e R in
       subst (λ (z : ℕ). T (capped binary32 z j (add binary32 x (costOf t qs (nz c) cs)))) e
       (add-capped binary32 1 (b + n) j x (costOf t qs (nz c) cs) (M .digits) (M .under)
-      (Q .each q (here refl) (nz c + r) p c P m (band-allowed q c r (and-l (within q r) (inBand (t .count) qs cs) h)))
+      (Q .each q (here refl) .prices (nz c + r) p c P m (band-allowed q c r (and-l (within q r) (inBand (t .count) qs cs) h)))
       (choice-capped (nz c) (rest-capped Q) (less-room (b + n) (fewer b n) R) (nz-le c) k (and-r (within q r) (inBand (t .count) qs cs) h)))
 
   -- it is infinite exactly where one of its terms is
@@ -115,7 +129,7 @@ module _ (j b : ℕ) (t : Tail) where
       let N = less-room (b + n) (fewer b n) R in
       let i = and-r (within q r) (inBand (t .count) qs cs) h in
       term-finite j 1 (b + n) x (costOf t qs (nz c) cs) (hasInfinite t qs (nz c) cs) (subst⁻¹ (Room j) (one-more b n) R)
-      (Q .each q (here refl) (nz c + r) p c P m (band-allowed q c r (and-l (within q r) (inBand (t .count) qs cs) h)))
+      (Q .each q (here refl) .prices (nz c + r) p c P m (band-allowed q c r (and-l (within q r) (inBand (t .count) qs cs) h)))
       (choice-capped (nz c) (rest-capped Q) N (nz-le c) k i)
       (choice-infinite (nz c) (rest-capped Q) N (nz-le c) k i)
 
