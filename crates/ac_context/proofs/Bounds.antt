@@ -1,6 +1,6 @@
 -- How large the tables' entries are, each bound by one test over its table, and with them the contexts. Assumes nothing.
 use mathlib.Core.Path.{_≡_, refl, sym, subst}
-use mathlib.Core.Bool.{Bool, true, false}
+use mathlib.Core.Bool.{Bool, true, false, cond}
 use mathlib.Core.List.{List}
 use Prim.Native.Nat.{ℕ, zero, suc, _+_, _-_, _*_, _/_, _≤_, _<_}
 use native.Mathlib.Omega.{arith}
@@ -10,7 +10,7 @@ use lib.Pow.{pow-pos, pow-mono}
 use mir.Val.{boolByte}
 use lib.Dec.{T, lit≤, ltb, leb, ltb→lt, leb→le}
 use lib.ListN.{length, getD}
-use Rattle.ac_context.specs.Contexts.{strategyOrder, blockContextMap, channelRow, coeffFreqContext, coeffNumNonzeroContext, blockContext, zeroDensityContext, Coefficient, Covered, pick, bit}
+use Rattle.ac_context.specs.Contexts.{strategyOrder, blockContextMap, channelRow, coeffFreqContext, coeffNumNonzeroContext, blockContext, zeroDensityContext, Coefficient, Covered}
 use Rattle.ac_context.proofs.Table.{at, every}
 
 below : ℕ → ℕ → ℕ → Bool
@@ -41,7 +41,7 @@ unfolding below coeffNumNonzeroContext
 num-below i h = ltb→lt _ _ (at (below 207) coeffNumNonzeroContext tt i h)
 
 -- what a cast gives of a bool
-pub bit-is : (b : Bool) → boolByte b ≡ bit b
+pub bit-is : (b : Bool) → boolByte b ≡ cond b 1 0
 bit-is true = refl
 bit-is false = refl
 
@@ -51,7 +51,7 @@ bit-most false = lit≤ tt
 
 -- the count table never falls
 rises : ℕ → ℕ → Bool
-rises i x = pick (ltb i 63) (leb x (getD coeffNumNonzeroContext (suc i) 0)) true
+rises i x = cond (ltb i 63) (leb x (getD coeffNumNonzeroContext (suc i) 0)) true
 
 rises-all : T (every rises 0 coeffNumNonzeroContext)
 unfolding rises coeffNumNonzeroContext
@@ -72,7 +72,7 @@ rise-by (suc d) i h = rw add-suc (le-trans (rise-by d i (omega arith)) (rise (i 
 
 -- at each position the largest context is that of the most levels that can remain there
 fullest : ℕ → ℕ → Bool
-fullest i x = pick (ltb 0 i) (leb (getD coeffNumNonzeroContext (64 - i) 0 + x) 228) true
+fullest i x = cond (ltb 0 i) (leb (getD coeffNumNonzeroContext (64 - i) 0 + x) 228) true
 
 fullest-all : T (every fullest 0 coeffFreqContext)
 unfolding fullest coeffFreqContext coeffNumNonzeroContext
@@ -118,7 +118,7 @@ context-below {c} {remaining} {k} {prev} p w =
     let j : ℕ = (remaining + c - 1) / c in
     let sum : j + i ≤ 64 = index-sum c remaining k p (w .left) in
     let far : getD coeffNumNonzeroContext j 0 ≤ getD coeffNumNonzeroContext (j + (64 - i - j)) 0 =
-        rise-by (64 - i - j) j (omega (arith, first-index c k p (w .coded))) in
+    rise-by (64 - i - j) j (omega (arith, first-index c k p (w .coded))) in
     let same : j + (64 - i - j) ≡ 64 - i = omega arith in
     let most = full i (first-index c k p (w .coded)) (position-below c remaining k p (w .some) (w .left)) in
     omega (arith, rw same at far, most, w .flag)

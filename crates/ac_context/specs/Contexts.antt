@@ -1,24 +1,11 @@
 -- The contexts of a block's tokens, as ISO/IEC 18181-1 defines them: block context, context of the nonzero count, context of a coefficient.
 -- The quant class doubles the block contexts by the Rust's map. Assumes nothing.
-use Prim.Native.Nat.{ℕ, _+_, _-_, _*_, _/_, _^_, _≤_, _<_}
+use Prim.Native.Nat.{ℕ, zero, suc, _+_, _-_, _*_, _/_, _^_, _≤_, _<_}
 use mathlib.Core.Path.{_≡_}
-use mathlib.Core.Bool.{Bool, true, false}
+use mathlib.Core.Bool.{Bool, false, cond, _&&_, _||_}
 use mathlib.Core.List.{List, [], _∷_}
 use lib.Dec.{ltb, leb, eqb}
 use lib.ListN.{getD}
-
-abbrev pub pick : {A : Type 0} → Bool → A → A → A
-pick true a b = a
-pick false a b = b
-
-abbrev pub both : Bool → Bool → Bool
-both true b = b
-both false b = false
-
--- 1 for true
-abbrev pub bit : Bool → ℕ
-bit true = 1
-bit false = 0
 
 -- 15 block contexts, doubled by the quant class
 abbrev pub fineBlockContexts : ℕ
@@ -55,11 +42,11 @@ unfoldable pub blockContext : ℕ → ℕ → ℕ
 blockContext channel strategy = getD blockContextMap (getD channelRow channel 0 * 13 + getD strategyOrder strategy 0) 0
 
 unfoldable pub fineBlockContext : ℕ → ℕ → Bool → ℕ
-fineBlockContext channel strategy high = blockContext channel strategy * 2 + bit high
+fineBlockContext channel strategy high = blockContext channel strategy * 2 + cond high 1 0
 
 -- the bucket of a count: itself below 8, 36 from 64 on, else 4 + count / 2
 unfoldable pub nonZeroBucket : ℕ → ℕ
-nonZeroBucket count = pick (ltb count 8) count (pick (leb 64 count) 36 (4 + count / 2))
+nonZeroBucket count = cond (ltb count 8) count (cond (leb 64 count) 36 (4 + count / 2))
 
 -- the context of the nonzero count: these come first
 unfoldable pub fineNonZeroContext : ℕ → ℕ → ℕ
@@ -94,3 +81,19 @@ pub record Coefficient (c remaining k prev : ℕ) : Type 0 where
   pub left : remaining + k ≤ 64 * c
   pub coded : c ≤ k
   pub flag : prev < 2
+
+-- both as tests
+unfoldable pub isPowerBelow : ℕ → ℕ → Bool
+isPowerBelow zero c = false
+isPowerBelow (suc n) c = eqb c (2 ^ n) || isPowerBelow n c
+
+unfoldable pub isCovered : ℕ → Bool
+isCovered c = isPowerBelow 11 c
+
+unfoldable pub isCoefficient : ℕ → ℕ → ℕ → ℕ → Bool
+isCoefficient c remaining k prev = leb 1 remaining && leb (remaining + k) (64 * c) && leb c k && ltb prev 2
+
+-- r is the logarithm of c where c is a number of covered blocks, and 11 or more where it is none
+pub record Logarithm (c r : ℕ) : Type 0 where
+  pub power : r < 11 → c ≡ 2 ^ r
+  pub tested : isCovered c ≡ ltb r 11

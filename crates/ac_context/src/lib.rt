@@ -1,7 +1,7 @@
 // The contexts of a block's tokens: those of src/ac_context.rs that the level search uses.
 ghost use mathlib.Core.Path.{_≡_};
 ghost use Prim.Native.Nat.{_+_, _-_, _*_, _<_, _≤_, _^_};
-ghost use Rattle.ac_context.specs.Contexts.{blockContext, fineBlockContext, nonZeroBucket, fineNonZeroContext, fineZeroDensityContextsOffset, zeroDensityContext, fineBlockContexts, Covered, Coefficient};
+ghost use Rattle.ac_context.specs.Contexts.{blockContext, fineBlockContext, nonZeroBucket, fineNonZeroContext, fineZeroDensityContextsOffset, zeroDensityContext, fineBlockContexts, Covered, Coefficient, Logarithm, isCoefficient};
 
 mod tables;
 
@@ -78,4 +78,35 @@ pub fn zero_density_context(
     let nz = (nonzeros_left + covered_blocks - 1) >> log2_covered_blocks;
     let kk = k >> log2_covered_blocks;
     (tables::coeff_num_nonzero_context(nz) + tables::coeff_freq_context(kk)) * 2 + prev
+}
+
+// log2 of a number of covered blocks, or 11 where it is no power of two up to 1,024.
+pub fn log2_covered(covered_blocks: usize) -> u32
+    ensures { λ r. ⌜ Logarithm «covered_blocks» r ⌝ }
+{
+    let mut log2: u32 = 0;
+    while log2 < 11 {
+        if covered_blocks == 1 << log2 {
+            return log2;
+        }
+        log2 += 1;
+    }
+    11
+}
+
+// Whether a coefficient context is defined there. Each number is one that came as 32 bits.
+pub fn is_coefficient(nonzeros_left: usize, k: usize, covered_blocks: usize, prev: usize) -> bool
+    requires { ⌜ («nonzeros_left» < 2 ^ 32) × ((k < 2 ^ 32) × («covered_blocks» < 2 ^ 32)) ⌝ }
+    ensures { λ r. ⌜ r ≡ isCoefficient «covered_blocks» «nonzeros_left» k prev ⌝ }
+{
+    if nonzeros_left < 1 {
+        return false;
+    }
+    if 64 * covered_blocks < nonzeros_left + k {
+        return false;
+    }
+    if k < covered_blocks {
+        return false;
+    }
+    prev < 2
 }

@@ -36,7 +36,7 @@ add-result-2 c = search needs
 
 returns : tie.Need-returns
 unfolding zeroDensityContext
-returns c = 
+returns c =
     let pre = c .before .before .pre in
     let power = pre .0 .power in
     let a = c .before .before .args in

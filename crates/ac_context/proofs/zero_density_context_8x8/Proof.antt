@@ -26,10 +26,10 @@ add-result-2 c = search needs
 
 returns : tie.Need-returns
 unfolding zeroDensityContext
-returns c = 
+returns c =
     let a = c .before .before .args in
     let same : (c .before .coeff-num-nonzero-context .result + c .coeff-freq-context .result) * 2 + a .prev ≡ zeroDensityContext 1 (a .nonzeros-left) (a .k) (a .prev) =
-        simp (div-one, add-sub-cancel) (cc) in
+    simp (div-one, add-sub-cancel) (cc) in
     (same, subst⁻¹ (λ (x : ℕ). x < 458) same (context-below (lit< tt) (c .before .before .pre)))
 
 pub zero-density-context-8x8-spec : {M : Type 1} → statement M
