@@ -11,7 +11,7 @@ use mir.Val.{boolByte}
 use lib.Dec.{T, lit≤, ltb, leb, ltb→lt, leb→le}
 use lib.ListN.{length, getD}
 use Rattle.ac_context.specs.Contexts.{strategyOrder, blockContextMap, channelRow, coeffFreqContext, coeffNumNonzeroContext, blockContext, zeroDensityContext, Coefficient, Covered}
-use Rattle.ac_context.proofs.Table.{at, every}
+use Rattle.laws.proofs.Table.{at, every}
 
 below : ℕ → ℕ → ℕ → Bool
 below n i x = ltb x n

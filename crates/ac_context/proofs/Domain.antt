@@ -1,12 +1,13 @@
 -- The tests of the domain, against what they test. Assumes nothing.
-use mathlib.Core.Path.{_≡_, refl, sym}
-use mathlib.Core.Bool.{Bool, true, false, _&&_, _||_, or-true, true≢false}
+use mathlib.Core.Path.{_≡_, refl}
+use mathlib.Core.Bool.{true, false, _&&_, _||_, or-true}
 use Prim.Native.Nat.{ℕ, zero, suc, _+_, _-_, _*_, _%_, _<_, _^_}
 use native.Mathlib.Nat.{add-zero, add-suc, one-mul, mod-eq-of-lt, lt-of-le-of-lt}
 use native.Mathlib.Omega.{arith}
 use borrow.Author.Tests.{eq-eqb, ne-eqb, leb-true, ltb-true}
 use lib.Dec.{eqb, leb, ltb, lit<}
 use lib.Pow.{pow-mono}
+use Rattle.laws.proofs.Tests.{and-left, and-right}
 use Rattle.ac_context.specs.Contexts.{isPowerBelow, isCoefficient, Coefficient}
 
 power-by : (d r c : ℕ) → c ≡ 2 ^ r → isPowerBelow (suc (r + d)) c ≡ true
@@ -30,14 +31,6 @@ no-power-more n c below here = rw (ne-eqb _ _ here) below
 -- what `1 << k` is
 pub one-shl : (k : ℕ) → k < 11 → 1 * 2 ^ k % 2 ^ 64 ≡ 2 ^ k
 one-shl k h = rw one-mul (mod-eq-of-lt (lt-of-le-of-lt (pow-mono {j = 10} (omega arith)) (lit< tt)))
-
-and-left : (a b : Bool) → a && b ≡ true → a ≡ true
-and-left true b e = refl
-and-left false b e = e
-
-and-right : (a b : Bool) → a && b ≡ true → b ≡ true
-and-right true b e = e
-and-right false b e = absurd (true≢false (sym e))
 
 pub coefficient : (c remaining k prev : ℕ) → isCoefficient c remaining k prev ≡ true → Coefficient c remaining k prev
 unfolding isCoefficient

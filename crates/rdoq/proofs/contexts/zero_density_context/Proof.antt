@@ -20,9 +20,10 @@ is-coefficient-requires c κs = search needs
 
 zero-density-context-requires : tie.Need-zero-density-context-requires
 zero-density-context-requires c κs =
-    let small = c .before .before .if1 .left in
-    (record { power = c .before .before .before .log2-covered .ensures .power small; most = omega arith },
-    coefficient _ _ _ _ (sym (c .before .is-coefficient .ensures) ∙ c .if2 .taken))
+    let small = c .before .before .if1 .left in (
+      record { power = c .before .before .before .log2-covered .ensures .power small; most = omega arith },
+      coefficient _ _ _ _ (sym (c .before .is-coefficient .ensures) ∙ c .if2 .taken),
+    )
 
 cast-t13 : tie.Need-cast-t13
 cast-t13 c = search needs
@@ -31,16 +32,20 @@ returns-2 : tie.Need-returns-2
 unfolding zeroDensityReply
 returns-2 c =
     let is = c .before .before in
-    rw (is .before .before .log2-covered .ensures .tested ∙ lt-ltb _ _ (is .before .if1 .left),
-      sym (is .is-coefficient .ensures) ∙ c .before .if2 .taken)
+    rw (
+      is .before .before .log2-covered .ensures .tested ∙ lt-ltb _ _ (is .before .if1 .left),
+      sym (is .is-coefficient .ensures) ∙ c .before .if2 .taken,
+    )
     (ap Value (c .zero-density-context .ensures .0))
 
 returns-3 : tie.Need-returns-3
 unfolding zeroDensityReply
 returns-3 c =
     let is = c .before in
-    rw (is .before .before .log2-covered .ensures .tested ∙ lt-ltb _ _ (is .before .if1 .left),
-      sym (is .is-coefficient .ensures) ∙ c .if2 .left)
+    rw (
+      is .before .before .log2-covered .ensures .tested ∙ lt-ltb _ _ (is .before .if1 .left),
+      sym (is .is-coefficient .ensures) ∙ c .if2 .left,
+    )
 
 pub zero-density-context-spec : {M : Type 1} → statement M
 zero-density-context-spec =
