@@ -103,7 +103,7 @@ fn print_other_form(line: &[u8], out: &mut [u8], at: usize)
 // Writes what is printed for a line, given without its newline, into `out` from `at` on; answers how many bytes that is.
 pub fn print_line(line: &[u8], out: &mut [u8], at: usize) -> usize
     requires { ⌜ at + 31 ≤ length (now out) ⌝ }
-    ensures { λ r. ⌜ (r ≡ length (printed (now (line .entry)))) × (now (out .exit) ≡ laid (printed (now (line .entry))) at r (now (out .entry))) ⌝ }
+    ensures { λ r. ⌜ (r ≡ length (printed (now (line .entry)))) × ((now (out .exit) ≡ laid (printed (now (line .entry))) at r (now (out .entry))) × (r ≤ 31)) ⌝ }
 {
     if is_line(line) {
         print_columns(line, context_of(line), out, at);

@@ -37,9 +37,12 @@ unfolding isLine
 returns-4 c =
     let second = c .before .before .before in
     let first = second .before .before in
-    rw (eq-eqb _ _ (first .before .if1 .left), sym (first .is-column .ensures) ∙ not-false _ (second .before .if2 .left),
+    rw (
+      eq-eqb _ _ (first .before .if1 .left),
+      sym (first .is-column .ensures) ∙ not-false _ (second .before .if2 .left),
       sym (second .is-column2 .ensures) ∙ not-false _ (c .before .before .if3 .left),
-      sym (c .before .is-column3 .ensures) ∙ not-true _ (c .if4 .taken))
+      sym (c .before .is-column3 .ensures) ∙ not-true _ (c .if4 .taken),
+    )
 
 is-column-requires-4 : tie.Need-is-column-requires-4
 is-column-requires-4 c κs = search needs
@@ -50,9 +53,12 @@ returns-5 c =
     let third = c .before .before in
     let second = third .before .before in
     let first = second .before .before in
-    rw (eq-eqb _ _ (first .before .if1 .left), sym (first .is-column .ensures) ∙ not-false _ (second .before .if2 .left),
+    rw (
+      eq-eqb _ _ (first .before .if1 .left),
+      sym (first .is-column .ensures) ∙ not-false _ (second .before .if2 .left),
       sym (second .is-column2 .ensures) ∙ not-false _ (third .before .if3 .left),
-      sym (third .is-column3 .ensures) ∙ not-false _ (c .before .if4 .left))
+      sym (third .is-column3 .ensures) ∙ not-false _ (c .before .if4 .left),
+    )
     (c .is-column4 .ensures)
 
 pub is-line-spec : {M : Type 1} → statement M

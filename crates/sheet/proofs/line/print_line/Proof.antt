@@ -2,6 +2,7 @@ use Rattle.sheet.proofs.Lines.{line-long, columns-long, printed-as}
 use Rattle.sheet.specs.Line.{laid, printed}
 use denote.Ref.{now}
 use Prim.Native.Nat.{ℕ}
+use lib.Dec.{lit≤}
 use mathlib.Core.Bool.{true, false}
 use mathlib.Core.List.{List}
 use lib.ListN.{length}
@@ -29,7 +30,7 @@ returns c =
     let test = c .before .before .before .before .before in
     let text = now (test .before .before .before .before .args .line) in
     let whole = sym (test .before .is-line .ensures) ∙ test .if1 .taken in
-    rw (printed-as text true whole) (sym (columns-long text (line-long text whole)), c .before .before .print-columns .ensures)
+    rw (printed-as text true whole) (sym (columns-long text (line-long text whole)), (c .before .before .print-columns .ensures, lit≤ tt))
 
 print-other-form-requires : tie.Need-print-other-form-requires
 print-other-form-requires c κs = search needs
@@ -41,7 +42,7 @@ returns-2 : tie.Need-returns-2
 returns-2 c =
     let test = c .before .before .before .before in
     let text = now (test .before .before .before .before .args .line) in
-    rw (printed-as text false (sym (test .before .is-line .ensures) ∙ test .if1 .left)) (refl, c .before .before .print-other-form .ensures)
+    rw (printed-as text false (sym (test .before .is-line .ensures) ∙ test .if1 .left)) (refl, (c .before .before .print-other-form .ensures, lit≤ tt))
 
 pub print-line-spec : {M : Type 1} → statement M
 print-line-spec =
