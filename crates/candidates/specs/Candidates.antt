@@ -45,13 +45,22 @@ unfoldable pub settled : Float → Bool
 unfolding abs
 settled x = lt (fin false 5 (negsuc 0)) (abs x) && lt (abs (sub binary32 x (ofInt binary32 (nearestOf x)))) (fin false 1 (negsuc 1))
 
--- The candidates, in trial order.
-unfoldable pub candidatesOf : Float → ℤ → Bool → List ℤ
+-- Without restoring: the current level, one step toward zero, then 0.
+unfoldable pub keptOf : ℤ → List ℤ
 unfolding dropRepeats
-candidatesOf ideal current false = dropRepeats (current ∷ towardZero current ∷ pos 0 ∷ [])
-candidatesOf ideal current true =
+keptOf current = dropRepeats (current ∷ towardZero current ∷ pos 0 ∷ [])
+
+-- Restoring: the current level, 0, the ideal's rounding r, r - 1 and r + 1; of a settled ideal the current level alone.
+unfoldable pub restoredOf : Float → ℤ → List ℤ
+unfolding settled dropRepeats
+restoredOf ideal current =
     let r = nearestOf ideal in
     cond (settled ideal) (current ∷ []) (dropRepeats (current ∷ pos 0 ∷ r ∷ predℤ r ∷ sucℤ r ∷ []))
+
+-- The candidates, in trial order.
+unfoldable pub candidatesOf : Float → ℤ → Bool → List ℤ
+unfolding keptOf restoredOf
+candidatesOf ideal current restore = cond restore (restoredOf ideal current) (keptOf current)
 
 -- What stands past the candidates, as in the Rust: 0, or where the level may be restored the current level.
 abbrev pub filler : ℤ → Bool → ℤ
