@@ -2,3 +2,5 @@ pub mod Rounding
 pub mod Levels
 pub mod Lists
 pub mod Sizes
+pub mod Laws
+pub mod Examples

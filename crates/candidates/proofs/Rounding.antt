@@ -138,6 +138,7 @@ zero-part s a c h = ap (signed s) (div-eq-of-lt (less (a * 2) c h)) ∙ none s
   where
     less : (a c : ℕ) → a < c → a + c < c * 2
     less a c h = omega arith
+
     none : (s : Bool) → signed s 0 ≡ pos 0
     none true = refl
     none false = refl
@@ -151,9 +152,9 @@ fields-small s x t h l i =
     let d = digits x t in
     let k = shift x in
     let a : d * 2 ^ k * 2 < 2 ^ 149 =
-      lt-of-lt-of-le
-      (mul-lt-mul-of-pos-right (mul-lt-mul-of-pos-right (digits-lt x t h) (pow-pos k)) two-pos)
-      (le-trans (le-of-eq (mul-right-comm (2 ^ 24) (2 ^ k) 2 ∙ mul-comm (2 ^ 25) (2 ^ k) ∙ sym (pow-add 2 k 25))) (pow-mono (shift-lt x l))) in
+    lt-of-lt-of-le
+    (mul-lt-mul-of-pos-right (mul-lt-mul-of-pos-right (digits-lt x t h) (pow-pos k)) two-pos)
+    (le-trans (le-of-eq (mul-right-comm (2 ^ 24) (2 ^ k) 2 ∙ mul-comm (2 ^ 25) (2 ^ k) ∙ sym (pow-add 2 k 25))) (pow-mono (shift-lt x l))) in
     nearest-at (ofFields binary32 s x t) s (d * 2 ^ k) (2 ^ 149) (pow-pos 149) (fields-value s x t i) ∙ zero-part s (d * 2 ^ k) (2 ^ 149) a
 
 -- an ideal's exponent
@@ -165,8 +166,10 @@ fields-under s (suc k) t i =
   where
     lead : 8388608 ≤ 8388608 + t
     lead = omega arith
+
     down1 : (k : ℕ) → 142 ≤ suc k → 141 ≤ k
     down1 k g = omega arith
+
     far : (k : ℕ) → 142 ≤ suc k → 32767 * 2 ^ 149 < (8388608 + t) * 2 ^ k
     far k g =
         lt-of-lt-of-le (lit< {m = 32767 * 2 ^ 149} {n = 8388608 * 2 ^ 141} tt)
