@@ -1,0 +1,4 @@
+-- What a choice of levels costs, and the recursion that finds a least one: `Position` what a position offers, `Choice` what a choice is and costs, `Search` the recursion.
+pub mod Position
+pub mod Choice
+pub mod Search
