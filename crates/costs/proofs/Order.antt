@@ -1,5 +1,5 @@
 -- The order of costs: reflexive, transitive, total, and with +infinity on top. Two costs that fit a format and are each at most the other are the same. Assumes nothing.
-use mathlib.Core.Path.{_≡_, refl, sym, ap, _∙_, subst}
+use mathlib.Core.Path.{_≡_, refl, sym, ap, ap₂, _∙_, subst}
 use mathlib.Core.Logic.{_⊎_, inl, inr}
 use Prim.Native.Nat.{ℕ, _+_, _-_, _*_, _/_, _^_, _≤_, _<_}
 use native.Mathlib.Nat.{le-of-eq, le-of-lt, mul-right-comm, eq-or-lt-of-le}
@@ -8,9 +8,9 @@ use native.Mathlib.Omega.{arith}
 use mathlib.Core.Bool.{Bool, true, false, not, _&&_, _||_}
 use lib.IntN.{ℤ}
 use lib.Dec.{T, leb, ltb, eqb, leb→le, le→leb, ltb→lt, lt→ltb, nleb→lt, eqb→eq, not-T, T-not}
-use lib.Ieee.{Float, inf, fin, Format, prec, low, up, down, hid, size, lt, le, fits, toBits, ofBits}
+use lib.Ieee.{Float, inf, fin, Format, prec, low, up, down, hid, size, lt, eq, le, fits, toBits, ofBits}
 use lib.Ieee.Bits.{is-true, ofBits-toBits}
-use lib.Ieee.Fits.{down-pos, eq→eqb, and-i, and-l}
+use lib.Ieee.Fits.{down-pos, eq→eqb, and-i, and-l, and-r}
 use lib.Ieee.Nearest.{div-same}
 use lib.Ieee.Positive.{through}
 use lib.Ieee.Scale.{finite}
@@ -168,7 +168,7 @@ lt-is x y a b = go (view x a) (view y b)
 
 pub lt→le : (x y : Float) → T (lt x y) → T (le x y)
 unfolding le
-lt→le x y h = left-or (lt x y) (lib.Ieee.eq x y) h
+lt→le x y h = left-or (lt x y) (eq x y) h
 
 pub not-lt→le : (x y : Float) → T (cost x) → T (cost y) → T (not (lt x y)) → T (le y x)
 not-lt→le x y a b h = back (le y x) (subst (λ (p : Bool). T (not p)) (lt-is x y a b) h)
@@ -198,6 +198,32 @@ le-total x y a b = go (lt x y) (lt→le x y) (not-lt→le x y a b)
     go : (p : Bool) → (T p → T (le x y)) → (T (not p) → T (le y x)) → T (le x y) ⊎ T (le y x)
     go true h k = inl (h tt)
     go false h k = inr (k tt)
+
+-- ---- `==` is `≤` both ways
+pub eq-is : (x y : Float) → T (cost x) → T (cost y) → eq x y ≡ (le x y && le y x)
+unfolding eq le
+eq-is x y a b = go (view x a) (view y b)
+  where
+    sides : (m n : ℕ) → (eqb m n && true) ≡ (leb m n && leb n m)
+    sides m n =
+        same-test (eqb m n && true) (leb m n && leb n m)
+        (λ (h : T (eqb m n && true)).
+        let e = eqb→eq m n (and-l (eqb m n) true h) in
+        and-i (leb m n) (leb n m) (le→leb m n (le-of-eq e)) (le→leb n m (le-of-eq (sym e))))
+        (λ (h : T (leb m n && leb n m)).
+        and-i (eqb m n) true (eq→eqb (Nat.le-antisymm (leb→le m n (and-l (leb m n) (leb n m) h)) (leb→le n m (and-r (leb m n) (leb n m) h)))) tt)
+
+    go : {x y : Float} → Cost x → Cost y → eq x y ≡ (le x y && le y x)
+    go at-inf at-inf = refl
+    go at-inf (at-fin n d) = refl
+    go (at-fin m e) at-inf = refl
+    go (at-fin m e) (at-fin n d) = sides (m * up e * down d) (n * up d * down e) ∙ sym (ap₂ _&&_ (fin-le m e n d) (fin-le n d m e))
+
+pub eq→le : (x y : Float) → T (cost x) → T (cost y) → T (eq x y) → T (le x y) × T (le y x)
+eq→le x y a b h = let k = subst (λ (p : Bool). T p) (eq-is x y a b) h in (and-l (le x y) (le y x) k, and-r (le x y) (le y x) k)
+
+pub le→eq : (x y : Float) → T (cost x) → T (cost y) → T (le x y) → T (le y x) → T (eq x y)
+le→eq x y a b h k = subst (λ (p : Bool). T p) (sym (eq-is x y a b)) (and-i (le x y) (le y x) h k)
 
 -- ---- equal in size and both of a format: the same bit pattern, so the same
 same-bits : (f : Format) (m : ℕ) (e : ℤ) (n : ℕ) (d : ℤ) → m * up e * down d ≡ n * up d * down e → toBits f (fin false m e) ≡ toBits f (fin false n d)

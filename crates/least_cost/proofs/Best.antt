@@ -1,11 +1,11 @@
 -- The recursion finds a least cost. Where `best` is finite, the walked levels are a choice in the band that costs exactly that; no choice in the band costs less; and `best` is
 -- infinite exactly where every choice in the band is. All this by the count and `prev` that `best` is asked for, and as soon as every price is a cost. Assumes nothing.
-use mathlib.Core.Path.{_≡_, refl, sym, ap, ap₂, _∙_, subst, subst⁻¹, subst₂}
-use mathlib.Core.Logic.{_↔_}
+use mathlib.Core.Path.{_≡_, refl, sym, ap, ap₂, _∙_, subst, subst⁻¹}
+use mathlib.Core.Logic.{_↔_, _⊎_, inl, inr}
 use Prim.Native.Nat.{ℕ, _+_, _-_, _≤_}
 use native.Mathlib.Nat.{add-sub-of-le, add-sub-cancel-left, le-add-right}
-use mathlib.Core.Bool.{Bool, true, false, not, _&&_, cond}
-use mathlib.Core.List.{List, [], _∷_, List·Memᴰ as Mem, List·Memᴰ·head as here, List·Memᴰ·tail as there}
+use mathlib.Core.Bool.{Bool, true, false, not, cond}
+use mathlib.Core.List.{List, [], _∷_, List·Memᴰ as Mem, List·Memᴰ·head as here, List·Memᴰ·tail as there, List·Memᴰ·cases-cons as cases-cons, List·Memᴰ·not-nil as not-nil}
 use lib.IntN.{ℤ, pos}
 use lib.Dec.{T, eqb, eqb→eq, eqb-refl}
 use lib.Ieee.{Float, inf, binary32, add, le}
@@ -18,7 +18,7 @@ use Rattle.costs.proofs.Order as Order
 use Rattle.costs.proofs.Sum.{add-cost, add-mono-right}
 use Rattle.least_cost.specs.Position.{Position, Tail, Priced, nz, within, allowed}
 use Rattle.least_cost.specs.Choice.{Choice, done, takes, remaining, inBand, costOf}
-use Rattle.least_cost.specs.Search.{least, holder, trial, step, best, pick, walk}
+use Rattle.least_cost.specs.Search.{least, trial, step, best, pick, walk}
 use Rattle.least_cost.proofs.First.{Found, found-mem, finite-found, least-cost, least-le}
 use Rattle.least_cost.proofs.Trial.{nz-le, trial-listed, listed-trial}
 use Rattle.least_cost.proofs.Step.{Costs, allow, allowed-among, allowed-within, step-at, step-allowed, step-cost, step-rest}
@@ -41,6 +41,17 @@ pub record AllPriced (t : Tail) (qs : List Position) : Type 0 where
 
 pub rest-priced : {t : Tail} {q : Position} {qs : List Position} → AllPriced t (q ∷ qs) → AllPriced t qs
 rest-priced Q = record { tails = Q .tails; each = λ x m. Q .each x (there m) }
+
+-- to show it, position by position
+pub none-priced : {t : Tail} → ((p : ℕ) → p ≤ 1 → T (cost (t .cost p))) → AllPriced t []
+none-priced h = record { tails = h; each = λ x m. absurd (not-nil m) }
+
+pub more-priced : {t : Tail} {q : Position} {qs : List Position} → Priced q → AllPriced t qs → AllPriced t (q ∷ qs)
+more-priced {t} {q} {qs} h Q = record { tails = Q .tails; each = λ x m. front x (cases-cons m) }
+  where
+    front : (x : Position) → (x ≡ q) ⊎ Mem x qs → Priced x
+    front x (inl e) = subst⁻¹ Priced e h
+    front x (inr m) = Q .each x m
 
 module _ (t : Tail) where
   end-cost : (r p : ℕ) → T (cost (t .cost p)) → T (cost (best t [] r p))

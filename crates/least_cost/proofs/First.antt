@@ -2,15 +2,22 @@
 -- every element before it is dearer, and none after it is cheaper. Assumes nothing.
 use mathlib.Core.Path.{_≡_, refl, sym, ap, _∙_, subst, subst⁻¹}
 use mathlib.Core.Logic.{_⊎_, inl, inr}
+use Prim.Native.Nat.{ℕ}
 use mathlib.Core.Bool.{Bool, true, false, not, cond}
 use mathlib.Core.List.{List, [], _∷_, _++_, List·Memᴰ as Mem, List·Memᴰ·head as here, List·Memᴰ·tail as there, List·Memᴰ·cases-cons as cases-cons, List·Memᴰ·append-cases as append-cases, List·Memᴰ·not-nil as not-nil, Memᴰ·append-right as append-right}
 use lib.Dec.{T}
-use lib.Ieee.{Float, inf, lt, le}
+use lib.IntN.{pos}
+use lib.Ieee.{Float, inf, fin, lt, le}
 use lib.Ieee.Scale.{finite}
 use Rattle.costs.specs.Cost.{cost}
 use Rattle.costs.proofs.View.{at-inf, viewed}
 use Rattle.costs.proofs.Order as Order
 use Rattle.least_cost.specs.Search.{least, holder}
+
+-- ---- an example: of two that cost 1.0 the first is held
+first-of-two : holder (λ (n : ℕ). fin false 1 (pos 0)) (inf false) 0 (1 ∷ 2 ∷ []) ≡ 1
+unfolding holder lt
+first-of-two = refl
 
 module _ {A : Type 0} (g : A → Float) where
   -- nothing in the list is below the start v; l and h are what `least` and `holder` gave

@@ -1,7 +1,7 @@
 -- One step of the recursion: what it costs, and when it is finite. Assumes nothing.
-use mathlib.Core.Path.{_≡_, refl, sym, ap, _∙_, subst, subst⁻¹}
+use mathlib.Core.Path.{_≡_, refl, ap, subst}
 use Prim.Native.Nat.{ℕ, _-_, _≤_}
-use mathlib.Core.Bool.{Bool, true, false, _&&_, cond}
+use mathlib.Core.Bool.{Bool, true, false, cond}
 use mathlib.Core.List.{List·Memᴰ as Mem}
 use lib.IntN.{ℤ}
 use lib.Dec.{T, leb, leb→le, le→leb}
@@ -40,6 +40,10 @@ step-at q r p b c h = go (allowed q r c) h
     go : (k : Bool) → T k → cond k (add binary32 (q .price r p c) (b (r - nz c) (nz c))) (inf false) ≡ add binary32 (q .price r p c) (b (r - nz c) (nz c))
     go true t = refl
     go false t = absurd t
+
+pub step-barred : (q : Position) (r p : ℕ) (b : ℕ → ℕ → Float) (c : ℤ) → allowed q r c ≡ false → step q r p b c ≡ inf false
+unfolding step
+step-barred q r p b c e = ap (λ (k : Bool). cond k (add binary32 (q .price r p c) (b (r - nz c) (nz c))) (inf false)) e
 
 pub step-allowed : (q : Position) (r p : ℕ) (b : ℕ → ℕ → Float) (c : ℤ) → T (finite (step q r p b c)) → T (allowed q r c)
 unfolding step

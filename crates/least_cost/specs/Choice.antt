@@ -1,9 +1,10 @@
 -- A choice of levels for a list of positions: what it counts, whether it lies in the band, and what it costs, every sum rounded once. Assumes nothing.
 use Prim.Native.Nat.{ℕ, _+_}
-use mathlib.Core.Bool.{Bool, true, false, _&&_}
+use mathlib.Core.Bool.{Bool, true, false, not, _&&_, _||_}
 use mathlib.Core.List.{List, [], _∷_, List·Memᴰ}
 use lib.IntN.{ℤ}
 use lib.Ieee.{Float, inf, binary32, add}
+use lib.Ieee.Scale.{finite}
 use Rattle.least_cost.specs.Position.{Position, Tail, nz, within}
 
 -- a choice takes one listed candidate at each position
@@ -27,3 +28,9 @@ unfoldable pub costOf : Tail → List Position → ℕ → List ℤ → Float
 costOf t [] p cs = t .cost p
 costOf t (q ∷ qs) p [] = inf false
 costOf t (q ∷ qs) p (c ∷ cs) = add binary32 (q .price (remaining (t .count) (c ∷ cs)) p c) (costOf t qs (nz c) cs)
+
+-- a choice's cost has an infinite term: a local cost, or the tail
+unfoldable pub hasInfinite : Tail → List Position → ℕ → List ℤ → Bool
+hasInfinite t [] p cs = not (finite (t .cost p))
+hasInfinite t (q ∷ qs) p [] = true
+hasInfinite t (q ∷ qs) p (c ∷ cs) = not (finite (q .price (remaining (t .count) (c ∷ cs)) p c)) || hasInfinite t qs (nz c) cs

@@ -1,12 +1,13 @@
 -- The search for a least cost, from the last position to the first, and the walk that reads the chosen levels off. Assumes nothing.
 use Prim.Native.Nat.{ℕ, zero, suc, _-_}
-use mathlib.Core.Bool.{Bool, true, false, _||_, cond}
+use mathlib.Core.Bool.{Bool, false, not, _||_, cond}
 use mathlib.Core.List.{List, [], _∷_, _++_}
 use lib.IntN.{ℤ, pos}
 use lib.Dec.{eqb}
 use lib.Ieee.{Float, inf, binary32, add, lt}
+use lib.Ieee.Scale.{finite}
 use Rattle.least_cost.specs.Position.{Position, Tail, nz, allowed}
-use Rattle.least_cost.specs.Choice.{remaining, costOf}
+use Rattle.least_cost.specs.Choice.{remaining, costOf, hasInfinite}
 
 -- ---- The first least: a list is gone through in order, from a start value v, and only what is below the best so far takes its place.
 -- The value that stands at the end, and the element that it is of (d where nothing was below v).
@@ -65,6 +66,10 @@ countOf w cs = remaining (w .tail .count) cs
 
 unfoldable pub wholeCost : Problem → List ℤ → Float
 wholeCost w cs = add binary32 (costOf (w .tail) (w .positions) (w .firstPrev (countOf w cs)) cs) (w .countCost (countOf w cs))
+
+-- the whole cost has an infinite term: a local cost, the tail, or what the count costs
+unfoldable pub wholeInfinite : Problem → List ℤ → Bool
+wholeInfinite w cs = hasInfinite (w .tail) (w .positions) (w .firstPrev (countOf w cs)) cs || not (finite (w .countCost (countOf w cs)))
 
 -- the least whole cost of count n
 unfoldable pub total : Problem → ℕ → Float

@@ -1,0 +1,4 @@
+mod Shifts
+mod Past
+pub mod Signed
+pub mod Hybrid
