@@ -9,6 +9,16 @@ pub struct DequantBias {
     pub numerator: f32,
 }
 
+// A level from -32,768 to 32,768.
+pub fn is_level(quant: i32) -> bool
+    ensures { λ r. ⌜ r ≡ isLevel quant ⌝ }
+{
+    if quant < -32768 {
+        return false;
+    }
+    quant <= 32768
+}
+
 impl DequantBias {
     // The value that a decoder restores from the level.
     pub fn level(self, quant: i32) -> f32

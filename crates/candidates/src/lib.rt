@@ -14,6 +14,26 @@ pub struct Candidates {
     pub count: usize,
 }
 
+// A level from -32,767 to 32,767, as check 12 has it.
+pub fn is_current(current: i32) -> bool
+    ensures { λ r. ⌜ r ≡ isCurrent current ⌝ }
+{
+    if current < -32767 {
+        return false;
+    }
+    current <= 32767
+}
+
+// An ideal from -32,767 to 32,767 and no NaN, as check 13 has it.
+pub fn is_ideal(ideal: f32) -> bool
+    ensures { λ r. ⌜ r ≡ isIdeal ideal ⌝ }
+{
+    if -32767.0 <= ideal {
+        return ideal <= 32767.0;
+    }
+    false
+}
+
 // The nearest whole number, halves away from zero.
 pub fn round_half_away(x: f32) -> i32
     requires { ⌜ T (isIdeal x) ⌝ }
