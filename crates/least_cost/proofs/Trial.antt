@@ -42,7 +42,7 @@ unfolding isZero
 one-not-zero c e = subst⁻¹ (λ (z : ℕ). T (not (eqb z 0))) e tt
 
 -- ---- what is tried is listed
-nonzeros-listed : (cs : List ℤ) (c : ℤ) → Mem c (nonzeros cs) → Mem c cs
+pub nonzeros-listed : (cs : List ℤ) (c : ℤ) → Mem c (nonzeros cs) → Mem c cs
 unfolding nonzeros isZero
 nonzeros-listed [] c m = m
 nonzeros-listed (d ∷ cs) c m = go (isZero d) (nonzeros-listed cs c) m

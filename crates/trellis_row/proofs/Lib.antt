@@ -2,3 +2,5 @@ pub mod Arrays
 pub mod Listed
 pub mod Scanning
 pub mod Noting
+pub mod Tying
+pub mod Choosing

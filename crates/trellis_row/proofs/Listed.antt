@@ -12,7 +12,9 @@ use mir.Syntax.{w32}
 use mir.Val.{ofZ, toZ}
 use Rattle.bias.specs.Level.{isLevel}
 use Rattle.candidates.specs.declared.Candidates.{Candidates}
-use Rattle.steps.proofs.Zero.{level-back}
+use Rattle.bias.proofs.Cases.{level-sfits}
+use Rattle.least_cost.specs.Position.{nz}
+use Rattle.steps.proofs.Zero.{level-back, is-zero, other-nz}
 use Rattle.trellis_row.specs.Locals.{listed, Usable, Each}
 use Rattle.trellis_row.proofs.Arrays.{Front}
 
@@ -45,3 +47,10 @@ module _ {c : Candidates} (u : Usable c) where
 
   pub listed-few : length (listed c) ≤ 5
   listed-few = rw listed-length (u .few)
+
+  -- the test of a level against 0
+  pub listed-zero : (j : ℕ) → j < c .count → ofZ w32 (getD (c .levels) j (pos 0)) ≡ 0 → getD (listed c) j (pos 0) ≡ pos 0
+  listed-zero j h e = listed-at j h ∙ is-zero _ (level-sfits _ (u .levels j h)) e
+
+  pub listed-nonzero : (j : ℕ) → j < c .count → (ofZ w32 (getD (c .levels) j (pos 0)) ≡ 0 → ⊥) → nz (getD (listed c) j (pos 0)) ≡ 1
+  listed-nonzero j h e = ap nz (listed-at j h) ∙ other-nz _ e

@@ -32,13 +32,13 @@ pub record Partly (g h : ℤ → Float) (levels : List ℤ) (j : ℕ) (l : Local
   pub first : Half g levels j (l .first) (l .«least_first») (l .«zero_first»)
   pub second : Half h levels j (l .second) (l .«least_second») (l .«zero_second»)
 
-zero-is : (q : ℤ) → nz q ≡ 0 → q ≡ pos 0
+pub zero-is : (q : ℤ) → nz q ≡ 0 → q ≡ pos 0
 unfolding nz
 zero-is (pos zero) e = refl
 zero-is (pos (suc n)) e = absurd (omega arith)
 zero-is (negsuc n) e = absurd (omega arith)
 
-nz-one : (q : ℤ) → (nz q ≡ 0 → ⊥) → nz q ≡ 1
+pub nz-one : (q : ℤ) → (nz q ≡ 0 → ⊥) → nz q ≡ 1
 unfolding nz
 nz-one (pos zero) h = absurd (h refl)
 nz-one (pos (suc n)) h = refl
@@ -50,14 +50,14 @@ half-none g levels costs l z few long e =
       long = long;
       costs = front-none nan _ costs;
       least = subst⁻¹ (λ (m : Least). Scanned g levels 0 m) e (scanned-none g levels few);
-      zero = record { seen = λ k h. absurd (omega arith) }
+      zero = record { seen = λ k h. absurd (omega arith) };
     }
 
 pub partly-none : (g h : ℤ → Float) (levels : List ℤ) (l : Locals) → length levels ≤ 5 → Empty l → Partly g h levels 0 l
 partly-none g h levels l few w =
     record {
       first = half-none g levels (l .first) (l .«least_first») (l .«zero_first») few (w .first) (w .least-first);
-      second = half-none h levels (l .second) (l .«least_second») (l .«zero_second») few (w .second) (w .least-second)
+      second = half-none h levels (l .second) (l .«least_second») (l .«zero_second») few (w .second) (w .least-second);
     }
 
 -- one level more, for one `prev`
@@ -68,7 +68,7 @@ half-more g levels j costs l z x room few e w =
       long = simp length-set (w .long);
       costs = front-more (rw (w .long) (omega arith)) (w .costs) e;
       least = scanned (eqb (nz level) 0) refl;
-      zero = record { seen = λ k h o. seen k h o (eqb (nz level) 0) refl }
+      zero = record { seen = λ k h o. seen k h o (eqb (nz level) 0) refl };
     }
   where
     level : ℤ
@@ -93,7 +93,7 @@ unfolding noted
 partly-more {g} {h} {levels} {j} {l} {x} {y} room few p q w =
     record {
       first = half-more g levels j (l .first) (l .«least_first») (l .«zero_first») x room few p (w .first);
-      second = half-more h levels j (l .second) (l .«least_second») (l .«zero_second») y room few q (w .second)
+      second = half-more h levels j (l .second) (l .«least_second») (l .«zero_second») y room few q (w .second);
     }
 
 -- the same as the code has it: m is what l became with the level q and its local costs
@@ -129,5 +129,5 @@ partly-all w =
       least-first = scanned-all (w .first .least);
       least-second = scanned-all (w .second .least);
       zero-first = zero-of (w .first .zero);
-      zero-second = zero-of (w .second .zero)
+      zero-second = zero-of (w .second .zero);
     }

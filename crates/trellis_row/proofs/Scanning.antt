@@ -31,27 +31,28 @@ scanned-none g levels few =
       choice = ap (λ (d : ℤ). holder g (inf false) d (nonzeros levels)) (List·getD-eq-default levels (pos 0) {n = 255} (omega arith));
     }
 
-skip : (c : ℤ) (cs : List ℤ) → nz c ≡ 0 → nonzeros (c ∷ cs) ≡ nonzeros cs
+pub skip : (c : ℤ) (cs : List ℤ) → nz c ≡ 0 → nonzeros (c ∷ cs) ≡ nonzeros cs
 unfolding nonzeros
 skip c cs z = rw z
 
-keep : (c : ℤ) (cs : List ℤ) → nz c ≡ 1 → nonzeros (c ∷ cs) ≡ c ∷ nonzeros cs
+pub keep : (c : ℤ) (cs : List ℤ) → nz c ≡ 1 → nonzeros (c ∷ cs) ≡ c ∷ nonzeros cs
 unfolding nonzeros
 keep c cs o = rw o
 
-module _ {g : ℤ → Float} {levels : List ℤ} {j : ℕ} {l : Least} (room : j < length levels) (w : Scanned g levels j l) where
-  rest : drop j levels ≡ getD levels j (pos 0) ∷ drop (j + 1) levels
-  rest = drop-cons levels j (pos 0) room ∙ ap (λ (n : ℕ). getD levels j (pos 0) ∷ drop n levels) (sym (add-one j))
+-- what is left from j on: the j-th, then what is left after it
+pub rest : (levels : List ℤ) (j : ℕ) → j < length levels → drop j levels ≡ getD levels j (pos 0) ∷ drop (j + 1) levels
+rest levels j room = drop-cons levels j (pos 0) room ∙ ap (λ (n : ℕ). getD levels j (pos 0) ∷ drop n levels) (sym (add-one j))
 
+module _ {g : ℤ → Float} {levels : List ℤ} {j : ℕ} {l : Least} (room : j < length levels) (w : Scanned g levels j l) where
   pub scanned-zero : nz (getD levels j (pos 0)) ≡ 0 → Scanned g levels (j + 1) l
   scanned-zero z =
-      let left = ap nonzeros rest ∙ skip (getD levels j (pos 0)) (drop (j + 1) levels) z in
+      let left = ap nonzeros (rest levels j room) ∙ skip (getD levels j (pos 0)) (drop (j + 1) levels) z in
       record { cost = rw left at (w .cost); before = rw left at (w .before); choice = rw left at (w .choice) }
 
   pub scanned-more : nz (getD levels j (pos 0)) ≡ 1 → Scanned g levels (j + 1) (considered l (g (getD levels j (pos 0))) j)
   unfolding considered least runnerUp holder
   scanned-more o =
-      let left = ap nonzeros rest ∙ keep (getD levels j (pos 0)) (drop (j + 1) levels) o in
+      let left = ap nonzeros (rest levels j room) ∙ keep (getD levels j (pos 0)) (drop (j + 1) levels) o in
       go (lt (g (getD levels j (pos 0))) (l .cost)) (rw left at (w .cost)) (rw left at (w .before)) (rw left at (w .choice))
     where
       c : ℤ

@@ -45,11 +45,16 @@ local-pair-requires : tie.Need-local-pair-requires Inv-loop μ-loop
 local-pair-requires c κs =
     let start = c .before .before .before .before .before .before .before .before in
     let usable = start .pre .1 .1 .0 in
-    let here = c .before .loop-test .taken in
-    (start .pre .0,
-    (start .pre .1 .0,
-    (usable-level usable _ here,
-    start .pre .1 .1 .1 .at _ (listed-below usable _ here) ∙ ap (distortionAt (start .args .place)) (sym (usable-listed usable _ here)))))
+    let here = c .before .loop-test .taken in (
+      start .pre .0,
+      (
+        start .pre .1 .0,
+        (
+          usable-level usable _ here,
+          start .pre .1 .1 .1 .at _ (listed-below usable _ here) ∙ ap (distortionAt (start .args .place)) (sym (usable-listed usable _ here)),
+        ),
+      ),
+    )
 
 note-requires : tie.Need-note-requires Inv-loop μ-loop
 note-requires c κs =
@@ -71,10 +76,11 @@ loop-again c =
     let start = at-loop .before .before .before .before .before .before in
     let usable = start .pre .1 .1 .0 in
     let here = c .before .before .before .loop-test .taken in
-    let pair = c .before .local-pair .ensures in
-    (search needs,
-    partly-noted (listed-below usable _ here) (listed-few usable) (usable-listed usable _ here) (pair .0) (pair .1) (c .note .ensures)
-    (at-loop .loop .inv .1))
+    let pair = c .before .local-pair .ensures in (
+      search needs,
+      partly-noted (listed-below usable _ here) (listed-few usable) (usable-listed usable _ here) (pair .0) (pair .1) (c .note .ensures)
+          (at-loop .loop .inv .1),
+    )
 
 returns : tie.Need-returns Inv-loop μ-loop
 returns c =

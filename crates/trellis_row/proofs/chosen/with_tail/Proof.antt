@@ -1,0 +1,16 @@
+use mathlib.Core.Path.{_≡_}
+use borrow.Author.Needs.{needs}
+use Rattle.trellis_row.proofs.chosen.with_tail.Statement.{statement}
+use Rattle.trellis_row.proofs.chosen.with_tail.Tie as tie
+
+infinity-requires : tie.Need-infinity-requires
+infinity-requires c κs = search needs
+
+returns : tie.Need-returns
+returns c = ?
+
+returns-2 : tie.Need-returns-2
+returns-2 c = ?
+
+pub with-tail-spec : {M : Type 1} → statement M
+with-tail-spec = tie.close (tie.spec infinity-requires returns returns-2)
