@@ -1,0 +1,4 @@
+pub mod Counts
+pub mod Marks
+pub mod Once
+pub mod Through

@@ -1,0 +1,1 @@
+// Check 11: the scan holds each number below its length once.
