@@ -1,4 +1,6 @@
+mod Bits
+mod Bools
 pub mod Counts
-pub mod Marks
+mod Marks
 pub mod Once
 pub mod Through

@@ -27,30 +27,27 @@ refuted : (b : Bool) → (b ≡ true → ⊥) → b ≡ false
 refuted true n = absurd (n refl)
 refuted false n = refl
 
-module _ {m : ℕ → Bool} {s : List ℕ} {k : ℕ} (met : Marks m s k) (h : k < length s) where
-  more-counts :
-      (m' : ℕ → Bool) → m (getD s k 0) ≡ false → m' (getD s k 0) ≡ true
-      → ((i : ℕ) → i < length s → (getD s k 0 ≡ i → ⊥) → m' i ≡ m i)
-      → (i : ℕ) → i < length s → countOf i (take (suc k) s) ≡ cond (m' i) 1 0
-  more-counts m' new marked others i l =
-      either (getD s k 0) i
-      (λ e. count-next-here i k s h e ∙ rw (met .counts i l, ← e, new, marked))
-      (λ d. count-next-other i k s h d ∙ rw (met .counts i l, others i l d))
+-- the entry x at k is not below the length
+pub past-end : (s : List ℕ) (k : ℕ) {x : ℕ} → k < length s → x ≡ getD s k 0 → length s ≤ x → eachOnce s ≡ false
+past-end s k h here g = refuted _ (λ e. lt-irrefl (length s) (omega (arith, bound s e k h)))
 
-  -- an entry that was not marked is, and nothing else changes
-  pub marks-more :
-      (m' : ℕ → Bool) → getD s k 0 < length s → m (getD s k 0) ≡ false → m' (getD s k 0) ≡ true
-      → ((i : ℕ) → i < length s → (getD s k 0 ≡ i → ⊥) → m' i ≡ m i) → Marks m' s (k + 1)
-  marks-more m' low new marked others =
-      record { counts = rw add-one (more-counts m' new marked others); below = below-more _ _ (met .below) low }
+-- the entry x at k is below it
+module _ {m : ℕ → Bool} {s : List ℕ} {k x : ℕ} (met : Marks m s k) (h : k < length s) (here : x ≡ getD s k 0) (low : x < length s) where
+  -- where x is marked already it stands there twice
+  pub marked-twice : m x ≡ true → eachOnce s ≡ false
+  marked-twice again =
+      refuted _ (λ e. lt-irrefl 1 (omega (arith, once s e x low, rw again at (met .counts x low), count-next-here x k s h (sym here), count-take-most x (suc k) s)))
 
-  -- an entry that is marked already stands there twice
-  pub marked-twice : getD s k 0 < length s → m (getD s k 0) ≡ true → eachOnce s ≡ false
-  marked-twice low again =
-      refuted _ (λ e. lt-irrefl 1 (omega (arith, once s e (getD s k 0) low, rw again at (met .counts (getD s k 0) low), count-next-here (getD s k 0) k s h refl, count-take-most (getD s k 0) (suc k) s)))
+  module _ (m' : ℕ → Bool) (new : m x ≡ false) (marked : m' x ≡ true) (others : (i : ℕ) → i < length s → (i ≡ x → ⊥) → m' i ≡ m i) where
+    more-counts : (i : ℕ) → i < length s → countOf i (take (suc k) s) ≡ cond (m' i) 1 0
+    more-counts i l =
+        either i x
+        (λ e. count-next-here i k s h (sym (e ∙ here)) ∙ rw (met .counts i l, e, new, marked))
+        (λ d. count-next-other i k s h (λ e. d (sym (here ∙ e))) ∙ rw (met .counts i l, others i l d))
 
-pub past-end : (s : List ℕ) (k : ℕ) → k < length s → length s ≤ getD s k 0 → eachOnce s ≡ false
-past-end s k h g = refuted _ (λ e. lt-irrefl (length s) (omega (arith, bound s e k h)))
+    -- otherwise it is marked, and nothing else changes
+    pub marks-more : Marks m' s (k + 1)
+    marks-more = record { counts = rw add-one more-counts; below = below-more _ _ (met .below) (rw here at low) }
 
 bit-most : (b : Bool) → cond b 1 0 ≤ 1
 bit-most true = lit≤ tt
