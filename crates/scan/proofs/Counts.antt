@@ -102,7 +102,7 @@ once-all zero s few e = refl
 once-all (suc n) s few e =
     let less = total-few n s (λ i h. few i (omega arith)) in
     let one = few n (omega arith) in
-    rw (once-all n s (λ i h. few i (omega arith)) (omega arith), eq-eqb (countOf n s) 1 (omega arith))
+    rw (once-all n s (λ i h. few i (omega arith)) (omega arith)) (eq-eqb (countOf n s) 1 (omega arith))
 
 pub once-at : (n : ℕ) (s : List ℕ) → eachOnceBelow n s ≡ true → (i : ℕ) → i < n → countOf i s ≡ 1
 unfolding eachOnceBelow

@@ -1,6 +1,6 @@
 mod Bits
 mod Bools
-pub mod Counts
+mod Counts
 mod Marks
 pub mod Once
 pub mod Through

@@ -3,19 +3,13 @@ use denote.Ref.{now}
 use Rattle.scan.proofs.Bits.{bits-clear}
 use Rattle.scan.proofs.each_once_65536.Statement.{statement}
 use Rattle.scan.proofs.each_once_65536.Tie as tie
-use Rattle.scan.proofs.each_once_65536.Reads as reads
-use Rattle.scan.proofs.each_once_65536.Lts as lts
-use Rattle.scan.proofs.mark_bits.Reads as mark-bits-reads
 
--- src/lib.rt:86:21
 slice-aggregate-mark-bits : tie.Need-slice-aggregate-mark-bits
 slice-aggregate-mark-bits c = search needs
 
--- src/lib.rt:86:5
 mark-bits-requires : tie.Need-mark-bits-requires
 mark-bits-requires c κs = bits-clear 1024 (now (c .before .before .args .scan)) (c .before .before .pre)
 
--- src/lib.rt:81:1
 returns : tie.Need-returns
 returns c = search needs
 

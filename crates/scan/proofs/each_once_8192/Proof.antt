@@ -3,19 +3,13 @@ use denote.Ref.{now}
 use Rattle.scan.proofs.Bools.{bools-clear}
 use Rattle.scan.proofs.each_once_8192.Statement.{statement}
 use Rattle.scan.proofs.each_once_8192.Tie as tie
-use Rattle.scan.proofs.each_once_8192.Reads as reads
-use Rattle.scan.proofs.each_once_8192.Lts as lts
-use Rattle.scan.proofs.mark_bools.Reads as mark-bools-reads
 
--- src/lib.rt:78:22
 slice-aggregate-mark-bools : tie.Need-slice-aggregate-mark-bools
 slice-aggregate-mark-bools c = search needs
 
--- src/lib.rt:78:5
 mark-bools-requires : tie.Need-mark-bools-requires
 mark-bools-requires c κs = bools-clear 8192 (now (c .before .before .args .scan)) (c .before .before .pre)
 
--- src/lib.rt:73:1
 returns : tie.Need-returns
 returns c = search needs
 

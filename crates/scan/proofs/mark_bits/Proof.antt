@@ -8,9 +8,6 @@ use Rattle.scan.proofs.Marks.{Marks, marked-twice, marked-all, past-end
 use Rattle.scan.proofs.Bits.{bits, bits-none, bits-more, bit-fits, bit-one, one-shl}
 use Rattle.scan.proofs.mark_bits.Statement.{statement}
 use Rattle.scan.proofs.mark_bits.Tie as tie
-use Rattle.scan.proofs.mark_bits.Reads as reads
-use Rattle.scan.proofs.mark_bits.Lts as lts
-use Rattle.scan.proofs.wide.Reads as wide-reads
 
 abbrev Inv-loop : tie.InvT-loop
 Inv-loop scan words₀ k₀ words k = (k ≤ length scan) × ((length words ≡ length words₀) × Marks (bits words) scan k)
@@ -18,57 +15,44 @@ Inv-loop scan words₀ k₀ words k = (k ≤ length scan) × ((length words ≡ 
 abbrev μ-loop : tie.MeasureT-loop
 μ-loop scan words₀ k₀ words k = length scan - k
 
--- src/lib.rt:42:5
 loop-holds : tie.Need-loop-holds Inv-loop μ-loop
 loop-holds c = (search needs, (refl, bits-none (now (c .before .before .args .words)) (now (c .before .before .args .scan)) (c .before .before .pre .0) (c .before .before .pre .1)))
 
--- src/lib.rt:43:22
 mul-wide : tie.Need-mul-wide Inv-loop μ-loop
 mul-wide c = search needs
 
--- src/lib.rt:43:22
 shared-slice-read-wide : tie.Need-shared-slice-read-wide Inv-loop μ-loop
 shared-slice-read-wide c = search needs
 
--- src/lib.rt:43:13
 wide-requires : tie.Need-wide-requires Inv-loop μ-loop
 wide-requires c κs = search needs
 
--- src/lib.rt:45:13
 same-length : tie.Need-same-length Inv-loop μ-loop
 same-length c = search needs
 
--- src/lib.rt:45:13
 returns : tie.Need-returns Inv-loop μ-loop
 returns c = sym (past-end _ _ (c .before .before .before .loop-test .taken) (c .before .wide .ensures) (c .if1 .taken))
 
--- src/lib.rt:47:20
 mul-word : tie.Need-mul-word Inv-loop μ-loop
 mul-word c = search needs
 
--- src/lib.rt:47:20
 slice-read-word : tie.Need-slice-read-word Inv-loop μ-loop
 slice-read-word c = omega arith
 
--- src/lib.rt:48:13
 shr-if2 : tie.Need-shr-if2 Inv-loop μ-loop
 shr-if2 c = omega arith
 
--- src/lib.rt:49:13
 same-length-2 : tie.Need-same-length-2 Inv-loop μ-loop
 same-length-2 c = search needs
 
--- src/lib.rt:49:13
 returns-2 : tie.Need-returns-2 Inv-loop μ-loop
 returns-2 c =
     let turn = c .before .before .before .before .before in
     sym (marked-twice (turn .before .loop .inv .1 .1) (turn .loop-test .taken) (c .before .before .before .wide .ensures) (c .before .before .if1 .left) (bit-one _ (c .if2 .taken)))
 
--- src/lib.rt:51:33
 shl-words : tie.Need-shl-words Inv-loop μ-loop
 shl-words c = omega arith
 
--- src/lib.rt:51:25
 add-words : tie.Need-add-words Inv-loop μ-loop
 add-words c =
     let x = c .before .before .before .wide .result in
@@ -76,23 +60,18 @@ add-words c =
     let below : x % 64 < 64 = omega arith in
     record { fits = rw (one-shl (x % 64) below) (bit-fits word (x % 64) (c .before .slice-known2 .given (x / 64) .fits) below (c .if2 .left)) }
 
--- src/lib.rt:51:9
 mul-words : tie.Need-mul-words Inv-loop μ-loop
 mul-words c = search needs
 
--- src/lib.rt:51:9
 slice-write-words : tie.Need-slice-write-words Inv-loop μ-loop
 slice-write-words c = omega arith
 
--- src/lib.rt:52:9
 add-k : tie.Need-add-k Inv-loop μ-loop
 add-k c = search needs
 
--- src/lib.rt:42:5
 loop-less : tie.Need-loop-less Inv-loop μ-loop
 loop-less c = search needs
 
--- src/lib.rt:42:5
 loop-again : tie.Need-loop-again Inv-loop μ-loop
 loop-again c =
     let turn = c .before .before .before .before .before in
@@ -100,11 +79,9 @@ loop-again c =
     let below : x % 64 < 64 = omega arith in
     (search needs, (search needs, rw (one-shl (x % 64) below) (bits-more (turn .before .loop .words) (now (turn .before .before .before .before .args .scan)) (omega arith) (c .before .before .if1 .left) (c .if2 .left) (turn .before .loop .inv .1 .1) (turn .loop-test .taken) (c .before .before .before .wide .ensures))))
 
--- src/lib.rt:36:1
 same-length-3 : tie.Need-same-length-3 Inv-loop μ-loop
 same-length-3 c = search needs
 
--- src/lib.rt:36:1
 returns-3 : tie.Need-returns-3 Inv-loop μ-loop
 returns-3 c =
     let end : c .before .loop .k ≡ length (now (c .before .before .before .before .args .scan)) = omega arith in

@@ -8,9 +8,6 @@ use lib.ListN.{length}
 use Rattle.scan.proofs.Marks.{Marks, marks-none, marked-twice, marked-all, past-end}
 use Rattle.scan.proofs.mark_bools.Statement.{statement}
 use Rattle.scan.proofs.mark_bools.Tie as tie
-use Rattle.scan.proofs.mark_bools.Reads as reads
-use Rattle.scan.proofs.mark_bools.Lts as lts
-use Rattle.scan.proofs.wide.Reads as wide-reads
 
 abbrev Inv-loop : tie.InvT-loop
 Inv-loop scan marks₀ k₀ marks k = (k ≤ length scan) × ((length marks ≡ length marks₀) × Marks (bools marks) scan k)
@@ -18,68 +15,53 @@ Inv-loop scan marks₀ k₀ marks k = (k ≤ length scan) × ((length marks ≡ 
 abbrev μ-loop : tie.MeasureT-loop
 μ-loop scan marks₀ k₀ marks k = length scan - k
 
--- src/lib.rt:21:5
 loop-holds : tie.Need-loop-holds Inv-loop μ-loop
 loop-holds c = (search needs, (refl, marks-none _ _ (c .before .before .pre .1)))
 
--- src/lib.rt:22:22
 mul-wide : tie.Need-mul-wide Inv-loop μ-loop
 mul-wide c = search needs
 
--- src/lib.rt:22:22
 shared-slice-read-wide : tie.Need-shared-slice-read-wide Inv-loop μ-loop
 shared-slice-read-wide c = search needs
 
--- src/lib.rt:22:13
 wide-requires : tie.Need-wide-requires Inv-loop μ-loop
 wide-requires c κs = search needs
 
--- src/lib.rt:24:13
 same-length : tie.Need-same-length Inv-loop μ-loop
 same-length c = search needs
 
--- src/lib.rt:24:13
 returns : tie.Need-returns Inv-loop μ-loop
 returns c = sym (past-end _ _ (c .before .before .before .loop-test .taken) (c .before .wide .ensures) (c .if1 .taken))
 
--- src/lib.rt:26:12
 slice-read-if2 : tie.Need-slice-read-if2 Inv-loop μ-loop
 slice-read-if2 c = search needs
 
--- src/lib.rt:27:13
 same-length-2 : tie.Need-same-length-2 Inv-loop μ-loop
 same-length-2 c = search needs
 
--- src/lib.rt:27:13
 returns-2 : tie.Need-returns-2 Inv-loop μ-loop
 returns-2 c =
     let turn = c .before .before .before .before .before in
     sym (marked-twice (turn .before .loop .inv .1 .1) (turn .loop-test .taken) (c .before .before .before .wide .ensures) (c .before .before .if1 .left) (c .if2 .taken))
 
--- src/lib.rt:29:9
 slice-write-marks : tie.Need-slice-write-marks Inv-loop μ-loop
 slice-write-marks c = search needs
 
--- src/lib.rt:30:9
 add-k : tie.Need-add-k Inv-loop μ-loop
 add-k c = search needs
 
--- src/lib.rt:21:5
 loop-less : tie.Need-loop-less Inv-loop μ-loop
 loop-less c = search needs
 
--- src/lib.rt:21:5
 loop-again : tie.Need-loop-again Inv-loop μ-loop
 loop-again c =
     let turn = c .before .before .before .before .before in
     let met = turn .before .loop .inv .1 in
     (search needs, (search needs, bools-more (turn .before .loop .marks) (omega arith) (met .1) (turn .loop-test .taken) (c .before .before .before .wide .ensures) (c .before .before .if1 .left) (c .if2 .left)))
 
--- src/lib.rt:15:1
 same-length-3 : tie.Need-same-length-3 Inv-loop μ-loop
 same-length-3 c = search needs
 
--- src/lib.rt:15:1
 returns-3 : tie.Need-returns-3 Inv-loop μ-loop
 returns-3 c =
     let end : c .before .loop .k ≡ length (now (c .before .before .before .before .args .scan)) = omega arith in
