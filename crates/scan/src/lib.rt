@@ -70,11 +70,11 @@ fn each_once_1024(scan: &[u32]) -> bool
     mark_bools(scan, &mut marks)
 }
 
-fn each_once_8192(scan: &[u32]) -> bool
-    requires { ⌜ length (now scan) ≤ 8192 ⌝ }
+fn each_once_16384(scan: &[u32]) -> bool
+    requires { ⌜ length (now scan) ≤ 16384 ⌝ }
     ensures { λ r. ⌜ r ≡ eachOnce (now (scan .entry)) ⌝ }
 {
-    let mut marks = [false; 8192];
+    let mut marks = [false; 16384];
     mark_bools(scan, &mut marks)
 }
 
@@ -86,7 +86,7 @@ fn each_once_65536(scan: &[u32]) -> bool
     mark_bits(scan, &mut words)
 }
 
-// A short scan clears few marks; for the longest, bits keep the frame at a few pages, which every call pays for.
+// A short scan clears few marks. The longest takes bits, since every call pays for the pages of the largest frame.
 pub fn each_once(scan: &[u32]) -> bool
     requires { ⌜ length (now scan) ≤ 65536 ⌝ }
     ensures { λ r. ⌜ r ≡ eachOnce (now (scan .entry)) ⌝ }
@@ -97,8 +97,8 @@ pub fn each_once(scan: &[u32]) -> bool
     if scan.len() <= 1024 {
         return each_once_1024(scan);
     }
-    if scan.len() <= 8192 {
-        return each_once_8192(scan);
+    if scan.len() <= 16384 {
+        return each_once_16384(scan);
     }
     each_once_65536(scan)
 }
