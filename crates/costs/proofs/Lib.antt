@@ -4,3 +4,4 @@ pub mod Order
 pub mod Sum
 pub mod Product
 pub mod Bound
+pub mod Difference

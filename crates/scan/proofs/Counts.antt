@@ -10,15 +10,15 @@ use lib.Dec.{eqb, ltb, lit≤}
 use lib.ListN.{length, getD, take, drop, take-append-drop}
 use lib.Seq.{take-suc, length-take-le, getD-take}
 use Rattle.laws.proofs.Tests.{and-left, and-right}
-use Rattle.scan.specs.Scan.{countOf, eachOnceBelow}
+use Rattle.scan.specs.Scan.{countOf, onceBelow}
 
 pub count-here : (i x : ℕ) (xs : List ℕ) → x ≡ i → countOf i (x ∷ xs) ≡ suc (countOf i xs)
 unfolding countOf
-count-here i x xs e = rw (eq-eqb x i e)
+count-here i x xs e = rw (eq-eqb i x (sym e)) (omega arith)
 
 pub count-other : (i x : ℕ) (xs : List ℕ) → (x ≡ i → ⊥) → countOf i (x ∷ xs) ≡ countOf i xs
 unfolding countOf
-count-other i x xs n = rw (ne-eqb x i n)
+count-other i x xs n = rw (ne-eqb i x (λ e. n (sym e))) (omega arith)
 
 pub count-empty : (i : ℕ) → countOf i (take 0 []) ≡ 0
 unfolding countOf
@@ -96,20 +96,20 @@ total-few zero s few = lit≤ tt
 total-few (suc n) s few = omega (arith, total-few n s (λ i h. few i (omega arith)), few n (omega arith))
 
 -- counts of at most 1 that add up to n are all 1
-pub once-all : (n : ℕ) (s : List ℕ) → ((i : ℕ) → i < n → countOf i s ≤ 1) → total n s ≡ n → eachOnceBelow n s ≡ true
-unfolding total eachOnceBelow
+pub once-all : (n : ℕ) (s : List ℕ) → ((i : ℕ) → i < n → countOf i s ≤ 1) → total n s ≡ n → onceBelow n s ≡ true
+unfolding total onceBelow
 once-all zero s few e = refl
 once-all (suc n) s few e =
     let less = total-few n s (λ i h. few i (omega arith)) in
     let one = few n (omega arith) in
     rw (once-all n s (λ i h. few i (omega arith)) (omega arith)) (eq-eqb (countOf n s) 1 (omega arith))
 
-pub once-at : (n : ℕ) (s : List ℕ) → eachOnceBelow n s ≡ true → (i : ℕ) → i < n → countOf i s ≡ 1
-unfolding eachOnceBelow
+pub once-at : (n : ℕ) (s : List ℕ) → onceBelow n s ≡ true → (i : ℕ) → i < n → countOf i s ≡ 1
+unfolding onceBelow
 once-at zero s e i h = absurd (not-suc-le-zero h)
 once-at (suc n) s e i h =
-    either i n (λ p. rw p (eqb-true (countOf n s) 1 (and-right (eachOnceBelow n s) (eqb (countOf n s) 1) e)))
-    (λ d. once-at n s (and-left (eachOnceBelow n s) (eqb (countOf n s) 1) e) i (omega arith))
+    either i n (λ p. rw p (eqb-true (countOf n s) 1 (and-right (onceBelow n s) (eqb (countOf n s) 1) e)))
+    (λ d. once-at n s (and-left (onceBelow n s) (eqb (countOf n s) 1) e) i (omega arith))
 
 pub count-append : (i : ℕ) (s t : List ℕ) → countOf i (s ++ t) ≡ countOf i s + countOf i t
 count-append i [] t = count-nil i t
@@ -125,11 +125,11 @@ count-take-most i k s =
 -- one entry more
 pub count-next-here : (i k : ℕ) (s : List ℕ) → k < length s → getD s k 0 ≡ i → countOf i (take (suc k) s) ≡ suc (countOf i (take k s))
 unfolding countOf
-count-next-here i k s h e = rw (take-suc s k 0 h, count-append, eq-eqb (getD s k 0) i e) (omega arith)
+count-next-here i k s h e = rw (take-suc s k 0 h, count-append, eq-eqb i (getD s k 0) (sym e)) (omega arith)
 
 pub count-next-other : (i k : ℕ) (s : List ℕ) → k < length s → (getD s k 0 ≡ i → ⊥) → countOf i (take (suc k) s) ≡ countOf i (take k s)
 unfolding countOf
-count-next-other i k s h d = rw (take-suc s k 0 h, count-append, ne-eqb (getD s k 0) i d) (omega arith)
+count-next-other i k s h d = rw (take-suc s k 0 h, count-append, ne-eqb i (getD s k 0) (λ e. d (sym e))) (omega arith)
 
 pub count-some : (i k : ℕ) (s : List ℕ) → k < length s → getD s k 0 ≡ i → 1 ≤ countOf i s
 count-some i k s h e = omega (arith, count-next-here i k s h e, count-take-most i (suc k) s)

@@ -8,8 +8,7 @@ use native.Mathlib.Omega.{arith}
 use lib.IntN.{ℤ, pos}
 use lib.ListN.{length, getD, set, length-set}
 use lib.Seq.{getD-set-same, getD-set-other}
-use Rattle.scan.specs.Scan.{Perm}
-use Rattle.scan.specs.Levels.{levelAt, put}
+use Rattle.scan.specs.Scan.{Perm, levelAt, put}
 use Rattle.scan.proofs.Counts.{either}
 
 -- one level, written at scan position j

@@ -1,0 +1,6 @@
+pub mod Rounding
+pub mod Levels
+pub mod Lists
+pub mod Sizes
+pub mod Laws
+pub mod Examples

@@ -1,0 +1,162 @@
+-- A price from a book that passes checks 1 to 6 is a cost: +infinity exactly where its symbol's price is, else at most 1,041.
+use mathlib.Core.List.{List}
+use Prim.Native.Nat.{zero-le, ℕ, zero, suc, _+_, _-_, _*_, _^_, _<_, _≤_}
+use mathlib.Core.Path.{_≡_, refl, sym, ap, ap₂, _∙_, subst, subst⁻¹}
+use mathlib.Core.Bool.{Bool, true, false, not, cond, _&&_, _||_, false≢true}
+use mathlib.Core.Logic.{_⊎_, inl, inr, ⊎-elim}
+use native.Mathlib.Omega.{arith}
+use native.Mathlib.Nat.{zero-mul, zero-add, sub-zero, le-trans, le-of-eq, mul-le-mul-right, mul-pos, zero-lt-suc}
+use lib.Dec.{T, leb, ltb, eqb, leb→le, ltb→lt, le→leb, lit<, lit≤}
+use lib.IntN.{ℤ, pos, negsuc}
+use lib.ListN.{getD}
+use lib.Ieee.{Float, nan, inf, fin, add, sum, round, ofInt, le, lt, eq, fits, up, down, binary32}
+use lib.Ieee.Bits.{is-true}
+use lib.Ieee.Fits.{up-pos, down-pos}
+use lib.Ieee.Scale.{finite}
+use borrow.Author.Tests.{lt-ltb, le-ltb, ne-eqb, leb-true}
+use Rattle.costs.specs.Cost.{cost, bounded, capped}
+use Rattle.costs.proofs.View.{Cost, at-inf, at-fin, view}
+use Rattle.costs.proofs.Order.{le→cross}
+use Rattle.costs.proofs.Sum.{round-cost, add-cost, inf-add, finite-terms}
+use Rattle.costs.proofs.Bound.{round-bounded, bounded-capped, capped-cost, add-capped, add-finite, bounded-finite}
+use Rattle.packing.proofs.Hybrid.{symbol-fits, extra-bits-few}
+use Rattle.prices.specs.Book.{Book, at, clusterValid, clusterSymbol, clusterExtra, clusterPrice, price}
+use Rattle.prices.specs.Checks.{symbolPrice, bookRefusal}
+use Rattle.prices.proofs.Each.{both}
+use Rattle.prices.proofs.Passed.{Passed, passed}
+
+-- ---- a symbol price
+
+zero-sum : (a b c : ℕ) → a ≡ 0 → cond (ltb a b) (round binary32 false (b - a) c) (round binary32 (true && ltb b a) (a - b) c) ≡ round binary32 false (a + b) c
+zero-sum a zero c e = simp (e, le-ltb 0 0 (omega arith))
+zero-sum a (suc b) c e = simp (e, lt-ltb 0 (suc b) (omega arith), zero-add (suc b), sub-zero (suc b))
+
+-- -0.0 counts as 0: added to a cost it is as +0.0
+negative-zero-add : (e : ℤ) (y : Float) → T (cost y) → add binary32 (fin true 0 e) y ≡ add binary32 (fin false 0 e) y
+unfolding add sum
+negative-zero-add e y h = go y (view y h)
+  where
+    go : (z : Float) → Cost z → add binary32 (fin true 0 e) z ≡ add binary32 (fin false 0 e) z
+    go z at-inf = refl
+    go z (at-fin n d) = zero-sum (0 * up e * down d) (n * up d * down e) (down e * down d) (rw (zero-mul (up e), zero-mul (down d)))
+
+or-false : (b : Bool) → b || false ≡ true → T b
+or-false true e = tt
+or-false false e = absurd (false≢true e)
+
+scaled : (a d p : ℕ) → a * 1 ≤ 1 * 1024 * d → a * p ≤ 1024 * p * d
+scaled a d p h = omega (arith, mul-le-mul-right p h)
+
+-- A symbol price is a cost of at most 1,024 or +infinity, or -0.0.
+of-symbol : (x : Float) → symbolPrice x ≡ true → T (capped binary32 1024 149 x) ⊎ ((e : ℤ) × (x ≡ fin true 0 e))
+unfolding symbolPrice capped bounded le lt eq
+of-symbol nan h = absurd (false≢true h)
+of-symbol (inf true) h = absurd (false≢true h)
+of-symbol (inf false) h = inl tt
+of-symbol (fin true zero e) h = inr (e, refl)
+of-symbol (fin true (suc m) e) h =
+    let positive = mul-pos (zero-lt-suc m) (up-pos e) in
+    absurd (false≢true (sym (simp (ne-eqb (0 * down e) (suc m * up e * 1) (λ q. omega (arith, zero-mul (down e))))) ∙ h))
+of-symbol (fin false m e) h =
+    let small = both (le (fin false 0 (pos 0)) (fin false m e)) (le (fin false m e) (fin false 1 (pos 10)) || eq (fin false m e) (inf false)) h .1 in
+    inl (le→leb _ _ (scaled (m * up e) (down e) (2 ^ 149) (le→cross m e 1 (pos 10) (or-false (le (fin false m e) (fin false 1 (pos 10))) small))))
+
+kinds : (x : Float) → symbolPrice x ≡ true → T (finite x) ⊎ (x ≡ inf false)
+unfolding symbolPrice le lt eq
+kinds nan h = absurd (false≢true h)
+kinds (inf true) h = absurd (false≢true h)
+kinds (inf false) h = inr refl
+kinds (fin s m e) h = inl tt
+
+-- ---- extra bits
+
+extra-bounded : (n : ℕ) → n ≤ 17 → T (bounded binary32 17 149 (ofInt binary32 (pos n)))
+unfolding ofInt
+extra-bounded n h =
+    round-bounded binary32 false n 1 17 149 (lit< {m = 0} {n = 1} tt) (lit< {m = 17} {n = 2 ^ 24} tt)
+    (lit< {m = 17 * 2 ^ 149} {n = 2 ^ 277} tt) (le-trans (mul-le-mul-right (2 ^ 149) h) (lit≤ {m = 17 * 2 ^ 149} {n = 17 * 2 ^ 149 * 1} tt))
+
+extra-cost : (n : ℕ) → T (cost (ofInt binary32 (pos n)))
+unfolding ofInt
+extra-cost n = round-cost binary32 n 1
+
+extra-capped : (n : ℕ) → n ≤ 17 → T (capped binary32 17 149 (ofInt binary32 (pos n)))
+extra-capped n h = bounded-capped binary32 17 149 (ofInt binary32 (pos n)) (extra-cost n) (λ t. extra-bounded n h)
+
+-- ---- a price
+
+zero-capped : (e : ℤ) → T (capped binary32 1024 149 (fin false 0 e))
+unfolding capped bounded
+zero-capped e = le→leb (0 * up e * 2 ^ 149) (1024 * 2 ^ 149 * down e) (rw (zero-mul (up e), zero-mul (2 ^ 149)) zero-le)
+
+-- a symbol price plus at most 17 extra bits
+module _ (n : ℕ) (few : n ≤ 17) where
+  capped-sum : (x : Float) → T (capped binary32 1024 149 x) → T (capped binary32 1041 149 (add binary32 x (ofInt binary32 (pos n))))
+  capped-sum x h =
+      add-capped binary32 1024 17 149 x (ofInt binary32 (pos n)) (lit< {m = 1041} {n = 2 ^ 24} tt) (lit< {m = 1041 * 2 ^ 149} {n = 2 ^ 277} tt) h
+      (extra-capped n few)
+
+  finite-sum : (x : Float) → T (capped binary32 1024 149 x) → T (finite x) → T (finite (add binary32 x (ofInt binary32 (pos n))))
+  finite-sum x h p =
+      add-finite binary32 1024 17 149 x (ofInt binary32 (pos n)) (lit< {m = 1041} {n = 2 ^ 24} tt) (lit< {m = 1041 * 2 ^ 149} {n = 2 ^ 277} tt) h
+      (extra-capped n few) p (bounded-finite binary32 17 149 _ (extra-bounded n few))
+
+  sum-capped : (x : Float) → symbolPrice x ≡ true → T (capped binary32 1041 149 (add binary32 x (ofInt binary32 (pos n))))
+  sum-capped x h =
+      ⊎-elim (capped-sum x)
+      (λ z.
+      subst⁻¹ (λ (y : Float). T (capped binary32 1041 149 (add binary32 y (ofInt binary32 (pos n))))) (z .1)
+      (subst⁻¹ (λ (y : Float). T (capped binary32 1041 149 y)) (negative-zero-add (z .0) (ofInt binary32 (pos n)) (extra-cost n))
+      (capped-sum (fin false 0 (z .0)) (zero-capped (z .0)))))
+      (of-symbol x h)
+
+  sum-finite : (x : Float) → symbolPrice x ≡ true → T (finite x) → T (finite (add binary32 x (ofInt binary32 (pos n))))
+  sum-finite x h p =
+      ⊎-elim (λ c. finite-sum x c p)
+      (λ z.
+      subst⁻¹ (λ (y : Float). T (finite (add binary32 y (ofInt binary32 (pos n))))) (z .1)
+      (subst⁻¹ (λ (y : Float). T (finite y)) (negative-zero-add (z .0) (ofInt binary32 (pos n)) (extra-cost n))
+      (finite-sum (fin false 0 (z .0)) (zero-capped (z .0)) tt)))
+      (of-symbol x h)
+
+symbol-within : (configs : List ℕ) (k v : ℕ) → clusterValid configs k ≡ true → v ≤ 131071 → clusterSymbol configs k v < 128
+unfolding clusterValid clusterSymbol
+symbol-within configs k v ok h = symbol-fits _ _ _ v ok h
+
+extra-few : (configs : List ℕ) (k v : ℕ) → v ≤ 131071 → clusterExtra configs k v ≤ 17
+unfolding clusterExtra
+extra-few configs k v h = le-trans (extra-bits-few _ _ _ v h) (lit≤ {m = 16} {n = 17} tt)
+
+-- the price of the symbol of value v in a context
+unfoldable pub symbolPriceOf : Book → ℕ → ℕ → Float
+symbolPriceOf b context v = at (b .symbols) (128 * getD (b .map) context 0 + clusterSymbol (b .configs) (getD (b .map) context 0) v)
+
+module _ (b : Book) (ok : bookRefusal b ≡ 0) (context v : ℕ) (hc : context < 14850) (hv : v ≤ 131071) where
+  symbol-passes : symbolPrice (symbolPriceOf b context v) ≡ true
+  unfolding symbolPriceOf
+  symbol-passes =
+      let p = passed b ok in
+      let k = p .mapped context hc in
+      p .priced _ (omega (arith, k, symbol-within (b .configs) (getD (b .map) context 0) v (p .valid _ k) hv))
+
+  -- A price is +infinity, or at least 0 and at most 1,041.
+  pub price-capped : T (capped binary32 1041 149 (price b context v))
+  unfolding price clusterPrice symbolPriceOf
+  price-capped = sum-capped _ (extra-few (b .configs) _ v hv) (symbolPriceOf b context v) symbol-passes
+
+  pub price-cost : T (cost (price b context v))
+  price-cost = capped-cost binary32 1041 149 (price b context v) price-capped
+
+  -- It is finite exactly where the price of the value's symbol is.
+  pub price-finite : T (finite (symbolPriceOf b context v)) → T (finite (price b context v))
+  unfolding price clusterPrice symbolPriceOf
+  price-finite = sum-finite _ (extra-few (b .configs) _ v hv) (symbolPriceOf b context v) symbol-passes
+
+  pub price-infinite : symbolPriceOf b context v ≡ inf false → price b context v ≡ inf false
+  unfolding price clusterPrice symbolPriceOf
+  price-infinite e = rw e (inf-add binary32 _ (extra-cost _))
+
+  pub infinite-symbol : price b context v ≡ inf false → symbolPriceOf b context v ≡ inf false
+  infinite-symbol e =
+      ⊎-elim (λ p. absurd (subst (λ (x : Float). T (finite x)) e (price-finite p))) (λ p. p)
+      (kinds (symbolPriceOf b context v) symbol-passes)

@@ -1,0 +1,56 @@
+-- `each n p` says that p holds of each number below n.
+use Prim.Native.Nat.{ℕ, zero, suc, _+_, _<_, _≤_}
+use mathlib.Core.Path.{_≡_, refl, sym, ap, ap₂, _∙_, subst}
+use mathlib.Core.Bool.{Bool, true, false, _&&_, false≢true, and-false}
+use native.Mathlib.Omega.{arith}
+use native.Mathlib.Nat.{not-suc-le-zero}
+use native.Mathlib.Numerals.{add-one}
+use lib.Dec.{eqb}
+use borrow.Author.Tests.{eqb-true, eqb-false}
+use Rattle.prices.specs.Checks.{each}
+
+pub both : (a b : Bool) → a && b ≡ true → (a ≡ true) × (b ≡ true)
+both true b e = (refl, e)
+both false b e = absurd (false≢true e)
+
+pub both-of : (a b : Bool) → a ≡ true → b ≡ true → a && b ≡ true
+both-of a b e d = rw (e, d)
+
+pub each-below : (p : ℕ → Bool) (n : ℕ) → each n p ≡ true → (i : ℕ) → i < n → p i ≡ true
+unfolding each
+each-below p zero e i h = absurd (not-suc-le-zero h)
+each-below p (suc n) e i h = go (eqb i n) refl (each-below p n (both _ _ e .0) i)
+  where
+    go : (t : Bool) → eqb i n ≡ t → (i < n → p i ≡ true) → p i ≡ true
+    go true d r = rw (eqb-true i n d) (both (each n p) (p n) e .1)
+    go false d r = let ne = eqb-false i n d in r (omega arith)
+
+pub each-all : (p : ℕ → Bool) (n : ℕ) → ((i : ℕ) → i < n → p i ≡ true) → each n p ≡ true
+unfolding each
+each-all p zero h = refl
+each-all p (suc n) h = both-of _ _ (each-all p n (λ i k. h i (omega arith))) (h n (omega arith))
+
+-- one more, as a loop takes it
+pub each-more : (p : ℕ → Bool) (n : ℕ) → each n p ≡ true → p n ≡ true → each (n + 1) p ≡ true
+unfolding each
+each-more p n e d = rw (add-one n) (both-of _ _ e d)
+
+-- one that fails fails the whole
+pub each-fails : (p : ℕ → Bool) (n i : ℕ) → i < n → p i ≡ false → each n p ≡ false
+unfolding each
+each-fails p zero i h d = absurd (not-suc-le-zero h)
+each-fails p (suc n) i h d = go (eqb i n) refl (each-fails p n i)
+  where
+    last : (b : Bool) → b && false ≡ false
+    last true = refl
+    last false = refl
+
+    go : (t : Bool) → eqb i n ≡ t → (i < n → p i ≡ false → each n p ≡ false) → each n p && p n ≡ false
+    go true q r = ap (λ (b : Bool). each n p && b) (rw (← eqb-true i n q) d) ∙ last (each n p)
+    go false q r = let ne = eqb-false i n q in rw (r (omega arith) d)
+
+-- predicates that agree below n
+pub each-same : (p q : ℕ → Bool) (n : ℕ) → ((i : ℕ) → i < n → p i ≡ q i) → each n p ≡ each n q
+unfolding each
+each-same p q zero h = refl
+each-same p q (suc n) h = ap₂ _&&_ (each-same p q n (λ i k. h i (omega arith))) (h n (omega arith))

@@ -1,0 +1,88 @@
+-- What a book that passes checks 1 to 6 has, entry by entry.
+use Prim.Native.Nat.{ℕ, zero, suc, _+_, _*_, _<_, _≤_}
+use mathlib.Core.Path.{_≡_, refl, sym, ap, _∙_, subst, subst⁻¹}
+use mathlib.Core.Bool.{Bool, true, false, cond, _&&_}
+use mathlib.Core.List.{List}
+use native.Mathlib.Omega.{arith}
+use lib.Dec.{T, leb, ltb, eqb}
+use lib.ListN.{length, getD}
+use lib.Ieee.{Float, fits, binary32, toBits, ofBits}
+use lib.Ieee.Bits.{ofBits-toBits}
+use lib.Ieee.Fits.{add-fits}
+use borrow.Author.Tests.{eqb-true, eq-eqb, leb-true, le-leb, ltb-true, lt-ltb}
+use Rattle.prices.specs.Book.{Book, at, clusterValid, clusterPrice, price}
+use Rattle.prices.specs.Checks.{each, symbolPrice, sameBits, check1, check2, check3, check4, check5, check6, readyRow, bookRefusal}
+use Rattle.prices.proofs.Each.{both, both-of, each-below, each-all}
+
+pub record Passed (b : Book) : Type 0 where
+  pub contexts : length (b .map) ≡ 14850
+  pub some : 1 ≤ b .clusters
+  pub few : b .clusters ≤ 256
+  pub configs-long : length (b .configs) ≡ 3 * b .clusters
+  pub symbols-long : length (b .symbols) ≡ 128 * b .clusters
+  pub ready-long : length (b .ready) ≡ 256 * b .clusters
+  pub mapped : (i : ℕ) → i < 14850 → getD (b .map) i 0 < b .clusters
+  pub valid : (k : ℕ) → k < b .clusters → clusterValid (b .configs) k ≡ true
+  pub priced : (i : ℕ) → i < 128 * b .clusters → symbolPrice (at (b .symbols) i) ≡ true
+  pub kept : (k v : ℕ) → k < b .clusters → v < 256 → sameBits (at (b .ready) (256 * k + v)) (clusterPrice (b .configs) (b .symbols) k v) ≡ true
+
+pub parts1 : (b : Book) → check1 b ≡ true → (length (b .map) ≡ 14850) × (1 ≤ b .clusters) × (b .clusters ≤ 256)
+unfolding check1
+parts1 b e =
+    let p = both (eqb (length (b .map)) 14850 && leb 1 (b .clusters)) (leb (b .clusters) 256) e in
+    let q = both (eqb (length (b .map)) 14850) (leb 1 (b .clusters)) (p .0) in
+    (eqb-true _ _ (q .0), leb-true _ _ (q .1), leb-true _ _ (p .1))
+
+pub parts2 : (b : Book) → check2 b ≡ true → (length (b .configs) ≡ 3 * b .clusters) × (length (b .symbols) ≡ 128 * b .clusters) × (length (b .ready) ≡ 256 * b .clusters)
+unfolding check2
+parts2 b e =
+    let c = eqb (length (b .configs)) (3 * b .clusters) in
+    let s = eqb (length (b .symbols)) (128 * b .clusters) in
+    let p = both (c && s) (eqb (length (b .ready)) (256 * b .clusters)) e in
+    let q = both c s (p .0) in
+    (eqb-true _ _ (q .0), eqb-true _ _ (q .1), eqb-true _ _ (p .1))
+
+through : (t : Bool) (x n : ℕ) → cond t x (suc n) ≡ 0 → (t ≡ true) × (x ≡ 0)
+through true x n e = (refl, e)
+through false x n e = absurd (omega arith)
+
+pub passed : (b : Book) → bookRefusal b ≡ 0 → Passed b
+unfolding bookRefusal check3 check4 check5 check6 readyRow
+passed b e =
+    let t1 = through (check1 b) _ 0 e in
+    let t2 = through (check2 b) _ 1 (t1 .1) in
+    let t3 = through (check3 b) _ 2 (t2 .1) in
+    let t4 = through (check4 b) _ 3 (t3 .1) in
+    let t5 = through (check5 b) _ 4 (t4 .1) in
+    let t6 = through (check6 b) _ 5 (t5 .1) in
+    let p1 = parts1 b (t1 .0) in
+    let p2 = parts2 b (t2 .0) in
+    record {
+      contexts = p1 .0;
+      some = p1 .1;
+      few = p1 .2;
+      configs-long = p2 .0;
+      symbols-long = p2 .1;
+      ready-long = p2 .2;
+      mapped =
+          λ i h.
+          ltb-true (getD (b .map) i 0) (b .clusters)
+          (each-below (λ j. ltb (getD (b .map) j 0) (b .clusters)) (length (b .map)) (t3 .0) i (omega (arith, p1 .0)));
+      valid = each-below (clusterValid (b .configs)) (b .clusters) (t4 .0);
+      priced = λ i h. each-below (λ j. symbolPrice (at (b .symbols) j)) (length (b .symbols)) (t5 .0) i (omega (arith, p2 .1));
+      kept = λ k v h i. each-below (λ w. sameBits (at (b .ready) (256 * k + w)) (clusterPrice (b .configs) (b .symbols) k w)) 256 (each-below (readyRow b) (b .clusters) (t6 .0) k h) v i;
+    }
+
+-- two values of the format with the same bits are one
+pub same-float : {x y : Float} → T (fits binary32 x) → T (fits binary32 y) → sameBits x y ≡ true → x ≡ y
+unfolding sameBits
+same-float {x} {y} fx fy e =
+    sym (ofBits-toBits binary32 x fx) ∙ ap (ofBits binary32) (eqb-true (toBits binary32 x) (toBits binary32 y) e) ∙ ofBits-toBits binary32 y fy
+
+pub cluster-price-fits : (configs : List ℕ) (symbols : List Float) (k v : ℕ) → T (fits binary32 (clusterPrice configs symbols k v))
+unfolding clusterPrice
+cluster-price-fits configs symbols k v = add-fits binary32 _ _
+
+pub price-fits : (b : Book) (context v : ℕ) → T (fits binary32 (price b context v))
+unfolding price
+price-fits b context v = cluster-price-fits (b .configs) (b .symbols) (getD (b .map) context 0) v
