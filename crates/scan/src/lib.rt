@@ -1,1 +1,104 @@
-// The scan of a block.
+// Check 11: the scan holds each number below its length once.
+ghost use mathlib.Core.Path.{_≡_};
+ghost use mathlib.Core.Bool.{false};
+ghost use Prim.Native.Nat.{ℕ, _*_, _<_, _≤_};
+ghost use lib.ListN.{length, getD};
+ghost use Rattle.scan.specs.Scan.{eachOnce};
+
+fn wide(x: u32) -> usize
+    ensures { λ r. ⌜ r ≡ x ⌝ }
+{
+    x as usize
+}
+
+// Marks the numbers met, one bool each, and stops at one past the end or met before.
+fn mark_bools(scan: &[u32], marks: &mut [bool]) -> bool
+    requires { ⌜ length (now scan) ≤ length (now marks) ⌝ }
+    requires { ⌜ ((i : ℕ) → i < length (now scan) → getD (now marks) i false ≡ false) ⌝ }
+    ensures { λ r. ⌜ r ≡ eachOnce (now (scan .entry)) ⌝ }
+{
+    let mut k = 0;
+    while k < scan.len() {
+        let x = wide(scan[k]);
+        if x >= scan.len() {
+            return false;
+        }
+        if marks[x] {
+            return false;
+        }
+        marks[x] = true;
+        k += 1;
+    }
+    true
+}
+
+// The same with 64 marks in a word.
+fn mark_bits(scan: &[u32], words: &mut [u64]) -> bool
+    requires { ⌜ length (now scan) ≤ 64 * length (now words) ⌝ }
+    requires { ⌜ ((j : ℕ) → j < length (now words) → getD (now words) j 0 ≡ 0) ⌝ }
+    ensures { λ r. ⌜ r ≡ eachOnce (now (scan .entry)) ⌝ }
+{
+    let mut k = 0;
+    while k < scan.len() {
+        let x = wide(scan[k]);
+        if x >= scan.len() {
+            return false;
+        }
+        let word = words[x / 64];
+        if (word >> (x % 64)) % 2 != 0 {
+            return false;
+        }
+        words[x / 64] = word + (1 << (x % 64));
+        k += 1;
+    }
+    true
+}
+
+fn each_once_64(scan: &[u32]) -> bool
+    requires { ⌜ length (now scan) ≤ 64 ⌝ }
+    ensures { λ r. ⌜ r ≡ eachOnce (now (scan .entry)) ⌝ }
+{
+    let mut marks = [false; 64];
+    mark_bools(scan, &mut marks)
+}
+
+fn each_once_1024(scan: &[u32]) -> bool
+    requires { ⌜ length (now scan) ≤ 1024 ⌝ }
+    ensures { λ r. ⌜ r ≡ eachOnce (now (scan .entry)) ⌝ }
+{
+    let mut marks = [false; 1024];
+    mark_bools(scan, &mut marks)
+}
+
+fn each_once_16384(scan: &[u32]) -> bool
+    requires { ⌜ length (now scan) ≤ 16384 ⌝ }
+    ensures { λ r. ⌜ r ≡ eachOnce (now (scan .entry)) ⌝ }
+{
+    let mut marks = [false; 16384];
+    mark_bools(scan, &mut marks)
+}
+
+fn each_once_65536(scan: &[u32]) -> bool
+    requires { ⌜ length (now scan) ≤ 65536 ⌝ }
+    ensures { λ r. ⌜ r ≡ eachOnce (now (scan .entry)) ⌝ }
+{
+    let mut words: [u64; 1024] = [0; 1024];
+    mark_bits(scan, &mut words)
+}
+
+// A short scan clears few marks. The longest takes bits, since every call pays for the pages of the largest frame.
+pub fn each_once(scan: &[u32]) -> bool
+    requires { ⌜ length (now scan) ≤ 65536 ⌝ }
+    ensures { λ r. ⌜ r ≡ eachOnce (now (scan .entry)) ⌝ }
+{
+    if scan.len() <= 64 {
+        return each_once_64(scan);
+    }
+    if scan.len() <= 1024 {
+        return each_once_1024(scan);
+    }
+    if scan.len() <= 16384 {
+        return each_once_16384(scan);
+    }
+    each_once_65536(scan)
+}

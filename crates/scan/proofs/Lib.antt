@@ -1,0 +1,6 @@
+mod Bits
+mod Bools
+mod Counts
+mod Marks
+pub mod Once
+pub mod Through
