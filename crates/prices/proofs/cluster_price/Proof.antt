@@ -10,7 +10,7 @@ use lib.ListN.{getD}
 use lib.Ieee.{Float, nan, add, ofInt, inFloat, binary32}
 use Rattle.packing.specs.Hybrid.{symbolOf, extraBitsOf, validConfig, split}
 use Rattle.packing.specs.declared.Split.{Split}
-use Rattle.packing.proofs.Hybrid.{symbol-fits, extra-bits-few}
+use Rattle.prices.proofs.Costs.{symbol-within, extra-few}
 use Rattle.prices.specs.Book.{clusterValid, clusterPrice, clusterSymbol, clusterExtra}
 use borrow.Author.Needs.{needs}
 use Rattle.prices.proofs.cluster_price.Statement.{statement}
@@ -29,14 +29,6 @@ module _ (configs : List ℕ) (k v s m l : ℕ) (es : s ≡ getD configs (3 * k)
   extra-copy : (r : Split) → r ≡ split s m l v → r .«extra_bits» ≡ clusterExtra configs k v
   unfolding clusterExtra split
   extra-copy r e = rw (e, es, em, el)
-
-symbol-small : (configs : List ℕ) (k v : ℕ) → clusterValid configs k ≡ true → v ≤ 131071 → clusterSymbol configs k v < 128
-unfolding clusterValid clusterSymbol
-symbol-small configs k v ok h = symbol-fits _ _ _ v ok h
-
-extra-small : (configs : List ℕ) (k v : ℕ) → v ≤ 131071 → clusterExtra configs k v ≤ 16
-unfolding clusterExtra
-extra-small configs k v h = extra-bits-few _ _ _ v h
 
 exact : (n : ℕ) → n ≤ 16 → T (inFloat binary32 (pos n))
 unfolding inFloat
@@ -67,7 +59,7 @@ extra-is c =
 symbol-below : (c : tie.After-uint-encode-with-config) → c .uint-encode-with-config .result .symbol < 128
 symbol-below c =
     let start = c .before .before .before .before in
-    rw (symbol-is c) (symbol-small (start .args .configs .now) (start .args .cluster) (start .args .value) (start .pre .1 .1 .0) (start .pre .1 .1 .1))
+    rw (symbol-is c) (symbol-within (start .args .configs .now) (start .args .cluster) (start .args .value) (start .pre .1 .1 .0) (start .pre .1 .1 .1))
 
 mul-at : tie.Need-mul-at
 mul-at c = search needs
@@ -88,7 +80,7 @@ int-to-float-result : tie.Need-int-to-float-result
 int-to-float-result c =
     let start = c .before .before .before .before .before .before .before in
     rw (extra-is (c .before .before .before))
-    (exact _ (extra-small (start .args .configs .now) (start .args .cluster) (start .args .value) (start .pre .1 .1 .1)))
+    (exact _ (extra-few (start .args .configs .now) (start .args .cluster) (start .args .value) (start .pre .1 .1 .1)))
 
 returns : tie.Need-returns
 unfolding clusterPrice
