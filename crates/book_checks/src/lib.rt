@@ -48,7 +48,7 @@ fn configs_valid(configs: &[u8], clusters: usize) -> bool
 }
 
 // 0 for a symbol price, 1 for any other float.
-fn unpriced(x: f32) -> u32
+pub fn unpriced(x: f32) -> u32
     ensures { λ r. ⌜ symbolPrice x ≡ eqb r 0 ⌝ }
     ensures { λ r. ⌜ r ≤ 1 ⌝ }
 {
@@ -79,7 +79,7 @@ fn symbols_priced(symbols: &[f32]) -> bool
 }
 
 // 0 where two floats have the same bits, else 1. A NaN has no bits of its own, and no price is one.
-fn differs(kept: f32, price: f32) -> u32
+pub fn differs(kept: f32, price: f32) -> u32
     requires { ⌜ T (cost price) ⌝ }
     ensures { λ r. ⌜ sameBits kept price ≡ eqb r 0 ⌝ }
     ensures { λ r. ⌜ r ≤ 1 ⌝ }
