@@ -119,6 +119,16 @@ module _ (n : ℕ) (few : n ≤ 17) where
       (finite-sum (fin false 0 (z .0)) (zero-capped (z .0)) tt)))
       (of-symbol x h)
 
+pub zero-extra : ofInt binary32 (pos 0) ≡ fin false 0 (pos 0)
+unfolding ofInt
+zero-extra = refl
+
+-- a symbol price plus no extra bits
+pub zero-sum-cost : (x : Float) → symbolPrice x ≡ true → T (cost (add binary32 x (fin false 0 (pos 0))))
+zero-sum-cost x h =
+    subst (λ (y : Float). T (cost (add binary32 x y))) zero-extra
+    (capped-cost binary32 1041 149 _ (sum-capped 0 (lit≤ {m = 0} {n = 17} tt) x h))
+
 pub symbol-within : (configs : List ℕ) (k v : ℕ) → clusterValid configs k ≡ true → v ≤ 131071 → clusterSymbol configs k v < 128
 unfolding clusterValid clusterSymbol
 symbol-within configs k v ok h = symbol-fits _ _ _ v ok h

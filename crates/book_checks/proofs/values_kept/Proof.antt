@@ -11,8 +11,8 @@ use Rattle.prices.specs.Checks.{each, symbolPrice, mapBelow, allPriced, sameBit
 use Rattle.prices.proofs.Each.{each-below, each-all, each-more, each-fails, each-count}
 use Rattle.prices.proofs.Costs.{cluster-cost, symbol-within}
 use borrow.Author.Needs.{needs}
-use Rattle.book_checks.proofs.row_kept.Statement.{statement}
-use Rattle.book_checks.proofs.row_kept.Tie as tie
+use Rattle.book_checks.proofs.values_kept.Statement.{statement}
+use Rattle.book_checks.proofs.values_kept.Tie as tie
 
 abbrev Inv-loop : tie.InvT-loop
 Inv-loop configs symbols ready cluster bad₀ v₀ bad v = (v ≤ 256) × (bad ≤ v) × (each v (λ w. sameBits (at ready (256 * cluster + w)) (clusterPrice configs symbols cluster w)) ≡ eqb bad 0)
@@ -78,8 +78,8 @@ returns c =
     (subst (λ (n : ℕ). each n (λ w. sameBits (at (start .args .ready .now) (256 * start .args .cluster + w)) (clusterPrice (start .args .configs .now) (start .args .symbols .now) (start .args .cluster) w)) ≡ eqb (loop .bad) 0)
     (omega arith) (loop .inv .2))
 
-pub row-kept-spec : {M : Type 1} → statement M
-row-kept-spec =
+pub values-kept-spec : {M : Type 1} → statement M
+values-kept-spec =
     tie.close
     (tie.spec
     Inv-loop
