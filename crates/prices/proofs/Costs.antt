@@ -61,7 +61,7 @@ of-symbol (fin false m e) h =
     let small = both (le (fin false 0 (pos 0)) (fin false m e)) (le (fin false m e) (fin false 1 (pos 10)) || eq (fin false m e) (inf false)) h .1 in
     inl (le→leb _ _ (scaled (m * up e) (down e) (2 ^ 149) (le→cross m e 1 (pos 10) (or-false (le (fin false m e) (fin false 1 (pos 10))) small))))
 
-kinds : (x : Float) → symbolPrice x ≡ true → T (finite x) ⊎ (x ≡ inf false)
+pub kinds : (x : Float) → symbolPrice x ≡ true → T (finite x) ⊎ (x ≡ inf false)
 unfolding symbolPrice le lt eq
 kinds nan h = absurd (false≢true h)
 kinds (inf true) h = absurd (false≢true h)

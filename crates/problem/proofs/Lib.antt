@@ -1,0 +1,3 @@
+mod Terms
+pub mod Local
+pub mod Problem
