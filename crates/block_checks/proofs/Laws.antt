@@ -5,18 +5,19 @@ use mathlib.Core.Logic.{_⊎_, inl, inr, ⊎-elim}
 use Prim.Native.Nat.{ℕ, zero, suc, _+_, _-_, _*_, _^_, _≤_, _<_, min}
 use native.Mathlib.Nat.{le-trans, le-min, min-le-left, min-le-right}
 use native.Mathlib.Omega.{arith}
-use borrow.Author.Tests.{eqb-true, leb-true}
+use borrow.Author.Tests.{eqb-true, eq-eqb, ne-eqb, leb-true}
 use lib.Dec.{T, eqb, leb, lit≤}
 use lib.ListN.{length}
 use Rattle.ac_context.specs.Contexts.{isPowerBelow, Covered}
 use Rattle.ac_context.proofs.Bounds.{covered-some, covered-most}
 use Rattle.bias.specs.Level.{validBias}
 use Rattle.block.specs.Block.{Block, covered, inputAt, ideal}
-use Rattle.block.specs.Checks.{check7, check8, check9, check10, check11, check12, check13, blockRefusal}
+use Rattle.block.specs.Checks.{check7, check8, check9, check10, check11, check12, check13, blockRefusal, searchRefusal}
 use Rattle.candidates.specs.Candidates.{isCurrent}
 use Rattle.candidates.specs.Nearest.{isIdeal}
 use Rattle.laws.proofs.Tests.{and-left, and-right}
-use Rattle.prices.specs.Checks.{each}
+use Rattle.prices.specs.Book.{Book}
+use Rattle.prices.specs.Checks.{each, bookRefusal}
 use Rattle.prices.proofs.Each.{each-below}
 use Rattle.scan.specs.Scan.{eachOnce}
 use Rattle.scan.proofs.Once.{perm-of}
@@ -193,3 +194,45 @@ pub passed : (b : Block) → blockRefusal (windowOf (covered b)) b 0 ≡ 0 → P
 passed b e =
     let f = formed b (both-parts b (contentRefusal (windowOf (covered b)) b 0) (sym (in-parts (windowOf (covered b)) b 0) ∙ e) .0) in
     passed-in (windowOf (covered b)) b e (windowed (covered b) (covered-some (f .power)))
+
+-- ---- the refusals of a search, as its returns meet them
+module _ (book : Book) (b : Block) (room : Bool) where
+  pub refused-book : (bookRefusal book ≡ 0 → ⊥) → searchRefusal book b room ≡ bookRefusal book
+  unfolding searchRefusal
+  refused-book n = rw (ne-eqb (bookRefusal book) 0 n)
+
+  -- what comes after a block that is refused changes nothing
+  later-none : (v : Window) (later : ℕ) → (blockRefusal v b 0 ≡ 0 → ⊥) → blockRefusal v b later ≡ blockRefusal v b 0
+  unfolding blockRefusal
+  later-none v later = go (check7 b) (check8 b) (check9 b) (check10 b) (check11 b) (check12 b) (check13 v b)
+    where
+      whole : (a b c d e f g : Bool) → ℕ → ℕ
+      whole a b c d e f g x = cond a (cond b (cond c (cond d (cond e (cond f (cond g x 13) 12) 11) 10) 9) 8) 7
+
+      go : (a b c d e f g : Bool) → (whole a b c d e f g 0 ≡ 0 → ⊥) → whole a b c d e f g later ≡ whole a b c d e f g 0
+      go false b c d e f g n = refl
+      go true false c d e f g n = refl
+      go true true false d e f g n = refl
+      go true true true false e f g n = refl
+      go true true true true false f g n = refl
+      go true true true true true false g n = refl
+      go true true true true true true false n = refl
+      go true true true true true true true n = absurd (n refl)
+
+  module _ (ok : bookRefusal book ≡ 0) where
+    pub refused-block : (blockRefusal (windowOf (covered b)) b 0 ≡ 0 → ⊥) → searchRefusal book b room ≡ blockRefusal (windowOf (covered b)) b 0
+    unfolding searchRefusal
+    refused-block n = rw (eq-eqb (bookRefusal book) 0 ok) (later-none (windowOf (covered b)) (cond room 0 14) n)
+
+    pub refused-room : blockRefusal (windowOf (covered b)) b 0 ≡ 0 → searchRefusal book b room ≡ cond room 0 14
+    unfolding searchRefusal blockRefusal
+    refused-room e =
+        let v = windowOf (covered b) in
+        let t7 = through (check7 b) _ 6 e in
+        let t8 = through (check8 b) _ 7 (t7 .1) in
+        let t9 = through (check9 b) _ 8 (t8 .1) in
+        let t10 = through (check10 b) _ 9 (t9 .1) in
+        let t11 = through (check11 b) _ 10 (t10 .1) in
+        let t12 = through (check12 b) _ 11 (t11 .1) in
+        let t13 = through (check13 v b) _ 12 (t12 .1) in
+        rw (eq-eqb (bookRefusal book) 0 ok, t7 .0, t8 .0, t9 .0, t10 .0, t11 .0, t12 .0, t13 .0)

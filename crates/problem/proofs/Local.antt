@@ -104,9 +104,10 @@ module _ (book : Book) (ok : bookRefusal book ≡ 0) (v : Window) (b : Block) (P
           let p = weight-positive (b .settings) (P .settings) (b .shape .channel) (baseLen (covered b)) i (small-base (covered b)) in
           let w = weight-bounded (b .settings) (P .settings) (b .shape .channel) (baseLen (covered b)) i (small-base (covered b)) in
           let x = ideal-bounded (ideal b i) (P .ideals i low) in
-          let y = level-bounded (b .bias) q (P .bias) h in
-          (distortion-capped weight (ideal b i) (biased (b .bias) q) p w x y,
-          bounded-finite binary32 1 193 (distortionOf weight (ideal b i) (biased (b .bias) q)) (distortion-bounded weight (ideal b i) (biased (b .bias) q) p w x y))
+          let y = level-bounded (b .bias) q (P .bias) h in (
+            distortion-capped weight (ideal b i) (biased (b .bias) q) p w x y,
+            bounded-finite binary32 1 193 (distortionOf weight (ideal b i) (biased (b .bias) q)) (distortion-bounded weight (ideal b i) (biased (b .bias) q) p w x y),
+          )
 
       charged : (remaining prev : ℕ) → T (capped binary32 1 193 (mul binary32 (rate b i q) (tokenPrice book b remaining (covered b + i) prev q)))
       charged remaining prev = let r = rates i q in charge-capped (rate b i q) _ (r .0) (r .1) (token-capped remaining (covered b + i) prev q h)

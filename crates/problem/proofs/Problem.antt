@@ -49,14 +49,14 @@ positions-length w v book b i (suc n) = ap suc (positions-length w v book b (suc
 
 -- ---- room for 65,536 terms
 
-room : (m : ℕ) → m ≤ 65536 → Room 194 m
+pub room : (m : ℕ) → m ≤ 65536 → Room 194 m
 room m h =
     record {
       digits = lt-of-le-of-lt h (lit< {m = 65536} {n = 2 ^ 24} tt);
       under = lt-of-le-of-lt (mul-le-mul-right (2 ^ 194) h) (lit< {m = 65536 * 2 ^ 194} {n = 2 ^ 277} tt);
     }
 
-zero-capped : T (capped binary32 0 194 (fin false 0 (pos 0)))
+pub zero-capped : T (capped binary32 0 194 (fin false 0 (pos 0)))
 unfolding capped bounded
 zero-capped = tt
 
@@ -134,7 +134,7 @@ module _ (book : Book) (ok : bookRefusal book ≡ 0) (v : Window) (b : Block) (P
         go false = lit≤ tt
 
     -- the first position's band
-    first-near :
+    pub first-near :
         (n : ℕ) (cs : List ℤ) → 1 ≤ n → T (inBand (pastWindow v b) (positionsFrom w v book b 0 n) cs)
         → (inputAfter b 0 - w ≤ remaining (pastWindow v b) cs) × (remaining (pastWindow v b) cs ≤ suc (inputAfter b 0 + w))
     unfolding positionsFrom positionAt
@@ -144,7 +144,7 @@ module _ (book : Book) (ok : bookRefusal book ≡ 0) (v : Window) (b : Block) (P
         (near .least, near .most)
 
     -- no choice in the band has a count that is not tried
-    covers : (cs : List ℤ) → Banded (problemOf w v book b) cs → Between (fewestCount w v b) (suc (mostCount w v b) - fewestCount w v b) (countOf (problemOf w v book b) cs)
+    pub covers : (cs : List ℤ) → Banded (problemOf w v book b) cs → Between (fewestCount w v b) (suc (mostCount w v b) - fewestCount w v b) (countOf (problemOf w v book b) cs)
     unfolding problemOf countOf fewestCount mostCount tailOf
     covers cs B =
         let reach = choice-reach (pastWindow v b) (B .choice) in
@@ -154,6 +154,9 @@ module _ (book : Book) (ok : bookRefusal book ≡ 0) (v : Window) (b : Block) (P
         let low : max (pastWindow v b) (inputAfter b 0 - w) ≤ r = max-le (reach .least) (near .0) in
         let high : r ≤ min (pastWindow v b + v .length) (inputAfter b 0 + w + 1) = le-min (omega (arith, reach .most)) (omega (arith, near .1)) in
         record { from = low; under = omega arith }
+
+    pub count-small : (cs : List ℤ) → Banded (problemOf w v book b) cs → countOf (problemOf w v book b) cs ≤ 131071
+    count-small cs B = tried-small (countOf (problemOf w v book b) cs) (covers cs B)
 
     pub sound : Sound (problemOf w v book b)
     unfolding problemOf

@@ -101,9 +101,10 @@ module _ (book : Book) (ok : bookRefusal book ≡ 0) (context v : ℕ) (hv : v �
 
   -- infinite exactly where the price of the value's symbol is
   pub price-infinite : (price book context v ≡ inf false) ↔ (symbolPriceOf book context v ≡ inf false)
-  price-infinite =
-      (λ e. ⊎-elim (λ p. absurd (subst (λ (x : Float). T (finite x)) e (price-finite p))) (λ p. p) (kinds (symbolPriceOf book context v) symbol-ok),
-      symbol-infinite)
+  price-infinite = (
+    λ e. ⊎-elim (λ p. absurd (subst (λ (x : Float). T (finite x)) e (price-finite p))) (λ p. p) (kinds (symbolPriceOf book context v) symbol-ok),
+    symbol-infinite,
+  )
 
 -- ---- a rate times a price
 

@@ -1,12 +1,11 @@
 -- The tokens of a choice, by their prices (document 01, "The steps they share"): the whole count in its context, then each packed level from scan position c on until
 -- nothing remains.
 use Prim.Native.Nat.{ℕ, zero, suc, _+_, _-_, _*_}
-use mathlib.Core.Bool.{Bool, false, not, cond, _||_}
+use mathlib.Core.Bool.{Bool, false, cond, _||_}
 use mathlib.Core.List.{List, [], _∷_, _++_}
 use lib.Dec.{eqb}
 use lib.IntN.{ℤ}
-use lib.Ieee.{Float}
-use lib.Ieee.Scale.{finite}
+use lib.Ieee.{Float, inf, eq}
 use Rattle.ac_context.specs.Contexts.{fineNonZeroContext}
 use Rattle.block.specs.Block.{Block, covered, contextOf, inputAt}
 use Rattle.block.specs.Cost.{tokenPrice, firstPrev}
@@ -46,4 +45,8 @@ tokensOf book b qs =
 -- one of the prices is infinite
 unfoldable pub someInfinite : List Float → Bool
 someInfinite [] = false
-someInfinite (x ∷ xs) = not (finite x) || someInfinite xs
+someInfinite (x ∷ xs) = eq x (inf false) || someInfinite xs
+
+-- a choice of levels for the window needs a token of infinite price
+unfoldable pub needsInfinite : Window → Book → Block → List ℤ → Bool
+needsInfinite v book b levels = someInfinite (tokensOf book b (chosenLevels v b levels))
