@@ -1,8 +1,7 @@
 -- What checks 7 to 13 leave a search with. Assumes nothing.
-use mathlib.Core.Path.{_≡_, refl, sym, _∙_, subst}
+use mathlib.Core.Path.{_≡_, refl, sym, _∙_}
 use mathlib.Core.Bool.{Bool, true, false, cond, _&&_}
-use mathlib.Core.Logic.{_⊎_, inl, inr, ⊎-elim}
-use Prim.Native.Nat.{ℕ, zero, suc, _+_, _-_, _*_, _^_, _≤_, _<_, min}
+use Prim.Native.Nat.{ℕ, suc, _+_, _-_, _*_, _≤_, _<_, min}
 use native.Mathlib.Nat.{le-trans, le-min, min-le-left, min-le-right}
 use native.Mathlib.Omega.{arith}
 use borrow.Author.Tests.{eqb-true, eq-eqb, ne-eqb, leb-true}
@@ -17,9 +16,8 @@ use Rattle.candidates.specs.Candidates.{isCurrent}
 use Rattle.candidates.specs.Nearest.{isIdeal}
 use Rattle.laws.proofs.Tests.{and-left, and-right}
 use Rattle.prices.specs.Book.{Book}
-use Rattle.prices.specs.Checks.{each, bookRefusal}
+use Rattle.prices.specs.Checks.{bookRefusal}
 use Rattle.prices.proofs.Each.{each-below}
-use Rattle.scan.specs.Scan.{eachOnce}
 use Rattle.scan.proofs.Once.{perm-of}
 use Rattle.weights.specs.Settings.{validSettings}
 use Rattle.weights.specs.Window.{windowOf}

@@ -1,7 +1,6 @@
 -- The input's own levels are a choice in the band, so the band is never empty; and the whole count of a choice in the band of half-width w differs from the input's by
 -- at most w + 1. Assumes nothing.
-use mathlib.Core.Path.{_≡_, refl, sym, ap, ap₂, _∙_, subst, subst⁻¹}
-use mathlib.Core.Bool.{Bool, _&&_}
+use mathlib.Core.Path.{_≡_, sym, ap, _∙_, subst, subst⁻¹}
 use mathlib.Core.List.{List, [], _∷_, _++_, List·Memᴰ as Mem, List·Memᴰ·head as here}
 use Prim.Native.Nat.{ℕ, zero, suc, _+_, _-_, _*_, _≤_, _<_}
 use native.Mathlib.Nat.{not-suc-le-zero, add-zero, zero-add, add-suc}
@@ -12,9 +11,9 @@ use lib.ListN.{length, getD}
 use lib.Ieee.Fits.{and-i}
 use Rattle.block.specs.Block.{Block, covered, inputAt, nonzerosAmong, inputRemaining, ideal, candidatesAt}
 use Rattle.block.specs.Band.{inputAfter, positionAt, positionsFrom, pastWindow, tailOf, problemOf}
-use Rattle.block_checks.specs.Passed.{Windowed, Passed}
-use Rattle.candidates.proofs.Laws.{Listed, candidates-listed}
-use Rattle.least_cost.specs.Position.{Position, nz, within}
+use Rattle.block_checks.specs.Passed.{Passed}
+use Rattle.candidates.proofs.Laws.{candidates-listed}
+use Rattle.least_cost.specs.Position.{nz, within}
 use Rattle.least_cost.specs.Choice.{Choice, done, takes, remaining, inBand}
 use Rattle.least_cost.specs.Search.{countOf}
 use Rattle.least_cost.proofs.Trial.{nz-le}

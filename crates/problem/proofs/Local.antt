@@ -1,24 +1,24 @@
 -- What a block's positions, tail and count can cost: each local cost is +infinity or at most 2 ^ 45, and infinite exactly where its token's price is. Assumes nothing.
-use mathlib.Core.Path.{_≡_, refl, sym, ap, ap₂, _∙_, subst, subst⁻¹}
-use mathlib.Core.Bool.{Bool, true, false, not, cond, _&&_, _||_}
+use mathlib.Core.Path.{_≡_, _∙_, subst⁻¹}
+use mathlib.Core.Bool.{Bool, true, false, cond, _&&_, _||_}
 use mathlib.Core.Logic.{_⊎_, inl, inr}
-use mathlib.Core.List.{List, [], _∷_, _++_, List·Memᴰ as Mem, List·Memᴰ·cases-cons as cases-cons, List·Memᴰ·not-nil as not-nil}
-use Prim.Native.Nat.{ℕ, zero, suc, _+_, _-_, _*_, _^_, _≤_, _<_, min}
-use native.Mathlib.Nat.{le-trans, min-le-left, min-le-right, lt-of-le-of-lt, mul-le-mul-right}
+use mathlib.Core.List.{List, [], _∷_, List·Memᴰ as Mem, List·Memᴰ·cases-cons as cases-cons, List·Memᴰ·not-nil as not-nil}
+use Prim.Native.Nat.{ℕ, _+_, _*_, _^_, _≤_, _<_, min}
+use native.Mathlib.Nat.{le-trans, min-le-left, min-le-right}
 use native.Mathlib.Omega.{arith}
-use lib.Dec.{T, eqb, leb, ltb, le→leb, leb→le, lit<, lit≤}
-use lib.IntN.{ℤ, pos, natAbs}
-use lib.Ieee.{Float, fin, binary32, prec, add, mul}
+use lib.Dec.{T, eqb, ltb, le→leb, leb→le, lit<, lit≤}
+use lib.IntN.{ℤ, natAbs}
+use lib.Ieee.{Float, binary32, add, mul}
 use lib.Ieee.Fits.{and-l, and-r}
-use lib.Ieee.Scale.{finite, overflow}
+use lib.Ieee.Scale.{finite}
 use lib.Ieee.Positive.{positive}
 use Rattle.bias.specs.Level.{isLevel, biased}
 use Rattle.bias.proofs.Bounds.{level-bounded}
-use Rattle.block.specs.Block.{Block, covered, contextOf, inputAt, ideal, candidatesAt}
+use Rattle.block.specs.Block.{Block, covered, inputAt, ideal, candidatesAt}
 use Rattle.block.specs.Cost.{distortionOf, distortion, rate, tokenPrice, localCost, countCost}
-use Rattle.block_checks.specs.Passed.{Windowed, Passed}
+use Rattle.block_checks.specs.Passed.{Passed}
 use Rattle.candidates.specs.Candidates.{isCurrent, candidatesOf}
-use Rattle.candidates.proofs.Laws.{every, Listed, candidates-listed, within}
+use Rattle.candidates.proofs.Laws.{every, candidates-listed, within}
 use Rattle.costs.specs.Cost.{cost, bounded, capped}
 use Rattle.costs.proofs.Order.{same-test}
 use Rattle.costs.proofs.Sum.{finite-terms}

@@ -1,13 +1,13 @@
 -- The theorems of least cost, of a block's search problem, in document 01's words. The book passes checks 1 to 6 and the block 7 to 13; half-width and window are
 -- parameters, and document 01's are 6 and `windowOf c`. Assumes nothing.
-use mathlib.Core.Path.{_≡_, refl, subst, subst⁻¹}
+use mathlib.Core.Path.{_≡_, subst, subst⁻¹}
 use mathlib.Core.Logic.{_↔_}
 use mathlib.Core.Bool.{Bool, false}
 use mathlib.Core.List.{List}
 use Prim.Native.Nat.{ℕ, _+_, _≤_}
 use lib.Dec.{T}
 use lib.IntN.{ℤ}
-use lib.Ieee.{Float, inf, le, lt}
+use lib.Ieee.{inf, le}
 use lib.Ieee.Scale.{finite}
 use Rattle.ac_context.specs.Contexts.{fineZeroDensityContextsOffset, zeroDensityContext}
 use Rattle.bias.specs.Level.{isLevel}
@@ -17,8 +17,8 @@ use Rattle.block.specs.Checks.{blockRefusal}
 use Rattle.block.specs.Band.{problemOf, halfWidth}
 use Rattle.block_checks.specs.Passed.{Passed}
 use Rattle.block_checks.proofs.Laws.{passed}
-use Rattle.least_cost.specs.Search.{countOf, wholeCost, wholeInfinite, leastTotal, leastCount, leastLevels}
-use Rattle.least_cost.proofs.Whole.{Banded, Sound, Answer}
+use Rattle.least_cost.specs.Search.{countOf, wholeCost, leastTotal}
+use Rattle.least_cost.proofs.Whole.{Banded, Answer}
 use Rattle.least_cost.proofs.Main as Least
 use Rattle.packing.specs.Signed.{packSigned}
 use Rattle.prices.specs.Book.{Book}

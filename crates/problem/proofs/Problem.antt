@@ -1,28 +1,27 @@
 -- The search problem of a block that passes its checks, with a book that passes its own, is sound, and no sum of it overflows: the whole cost has at most 64,513 terms,
 -- each +infinity or at most 2 ^ 45. Assumes nothing.
-use mathlib.Core.Path.{_≡_, refl, sym, ap, _∙_, subst, subst⁻¹}
+use mathlib.Core.Path.{_≡_, refl, ap}
 use mathlib.Core.Bool.{Bool, true, false, cond}
-use mathlib.Core.List.{List, [], _∷_, List·Memᴰ as Mem}
+use mathlib.Core.List.{List, []}
 use Prim.Native.Nat.{ℕ, zero, suc, _+_, _-_, _*_, _/_, _^_, _≤_, _<_, max, min}
-use native.Mathlib.Nat.{le-refl, le-trans, min-le-left, min-le-right, le-min, max-le, le-max-left, le-max-right, lt-of-le-of-lt, mul-le-mul-right}
+use native.Mathlib.Nat.{le-refl, le-trans, min-le-left, le-min, max-le, lt-of-le-of-lt, mul-le-mul-right}
 use native.Mathlib.Omega.{arith}
 use lib.Dec.{T, eqb, leb, lit<, lit≤}
 use lib.IntN.{ℤ, pos}
 use lib.ListN.{length}
-use lib.Ieee.{Float, fin, binary32, prec, add, mul}
-use lib.Ieee.Scale.{finite, overflow}
-use Rattle.block.specs.Block.{Block, covered, inputAt, nonzerosAmong, inputRemaining, candidatesAt}
-use Rattle.block.specs.Cost.{tokenPrice, localCost, tokensFrom, tailCost, firstPrev, countCost}
+use lib.Ieee.{Float, fin, binary32, add, mul}
+use Rattle.block.specs.Block.{Block, covered, inputAt, nonzerosAmong, inputRemaining}
+use Rattle.block.specs.Cost.{tokenPrice, tokensFrom, tailCost, firstPrev, countCost}
 use Rattle.block.specs.Band.{inputAfter, positionAt, positionsFrom, pastWindow, tailOf, fewestCount, mostCount, problemOf}
-use Rattle.block_checks.specs.Passed.{Windowed, Passed}
+use Rattle.block_checks.specs.Passed.{Passed}
 use Rattle.costs.specs.Cost.{bounded, capped}
 use Rattle.costs.proofs.Bound.{capped-cost, capped-more, add-capped}
-use Rattle.least_cost.specs.Position.{Position, Tail, nz, allowed}
+use Rattle.least_cost.specs.Position.{nz}
 use Rattle.least_cost.specs.Choice.{remaining, inBand}
-use Rattle.least_cost.specs.Search.{Problem, countOf}
+use Rattle.least_cost.specs.Search.{countOf}
 use Rattle.least_cost.proofs.Trial.{nz-le}
 use Rattle.least_cost.proofs.Counts.{Between}
-use Rattle.least_cost.proofs.Range.{Reach, Near, choice-reach, choice-near}
+use Rattle.least_cost.proofs.Range.{choice-reach, choice-near}
 use Rattle.least_cost.proofs.Whole.{Banded, Sound}
 use Rattle.least_cost.proofs.Infinite.{Room, OneCapped, AllCapped, none-capped, more-capped, capped-priced, Capped}
 use Rattle.prices.specs.Book.{Book}

@@ -1,14 +1,14 @@
 -- The terms of a cost: a distortion of at most 2 ^ 44, and a rate of at most 2 ^ 30 times a price, which is finite exactly where the price is. Assumes nothing.
-use mathlib.Core.Path.{_≡_, refl, sym, ap, _∙_, subst}
-use mathlib.Core.Bool.{Bool, true, false, not, cond, _&&_}
+use mathlib.Core.Path.{_≡_, refl, subst}
+use mathlib.Core.Bool.{Bool, true, false}
 use mathlib.Core.Logic.{_↔_, ⊎-elim}
-use Prim.Native.Nat.{ℕ, suc, _+_, _*_, _^_, _≤_, _<_}
+use Prim.Native.Nat.{ℕ, _*_, _^_, _≤_, _<_}
 use native.Mathlib.Nat.{le-trans, le-of-eq, mul-le-mul-right, mul-right-comm}
 use native.Mathlib.Omega.{arith}
 use borrow.Author.Tests.{ltb-true, ltb-false}
 use lib.Dec.{T, ltb, le→leb, lit<, lit≤}
-use lib.IntN.{ℤ, pos}
-use lib.ListN.{length, getD, List·getD-eq-default}
+use lib.IntN.{pos}
+use lib.ListN.{getD, List·getD-eq-default}
 use lib.Ieee.{Float, nan, inf, fin, binary32, up, down, sub, mul, ofInt, le}
 use lib.Ieee.Scale.{finite}
 use lib.Ieee.Positive.{positive}
@@ -20,9 +20,9 @@ use Rattle.costs.proofs.Product.{mul-cost, square-cost}
 use Rattle.costs.proofs.Sum.{inf-add, round-cost}
 use Rattle.costs.proofs.Bound.{bounded-finite, bounded-more, sub-bounded, mul-bounded, bounded-capped, capped-cost, capped-more, mul-capped, mul-finite, finite-factor}
 use Rattle.block.specs.Cost.{distortionOf}
-use Rattle.prices.specs.Book.{Book, clusterSymbol, clusterExtra, clusterPrice, price, at}
+use Rattle.prices.specs.Book.{Book, clusterPrice, price, at}
 use Rattle.prices.specs.Checks.{bookRefusal, symbolPrice}
-use Rattle.prices.proofs.Passed.{Sound, sound, five}
+use Rattle.prices.proofs.Passed.{sound, five}
 use Rattle.prices.proofs.Costs.{kinds, cluster-capped, cluster-finite, symbol-passes, symbolPriceOf}
 use Rattle.weights.proofs.Parts.{finite-number}
 

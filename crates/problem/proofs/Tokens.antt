@@ -1,5 +1,5 @@
 -- A choice's whole cost has an infinite term exactly where one of its tokens has an infinite price. Assumes nothing.
-use mathlib.Core.Path.{_≡_, refl, sym, ap, ap₂, _∙_, subst, subst⁻¹}
+use mathlib.Core.Path.{_≡_, refl, sym, ap, ap₂, _∙_, subst}
 use mathlib.Core.Bool.{Bool, true, false, not, cond, _&&_, _||_}
 use mathlib.Core.List.{List, [], _∷_, _++_, List·Memᴰ as Mem}
 use Prim.Native.Nat.{ℕ, zero, suc, _+_, _-_, _*_, _≤_, _<_}
@@ -14,8 +14,8 @@ use Rattle.ac_context.specs.Contexts.{fineNonZeroContext}
 use Rattle.block.specs.Block.{Block, covered, contextOf, inputAt, nonzerosAmong, inputRemaining}
 use Rattle.block.specs.Cost.{tokenPrice, localCost, tokensFrom, tailCost, firstPrev, countCost}
 use Rattle.block.specs.Band.{positionAt, positionsFrom, pastWindow, tailOf, problemOf}
-use Rattle.block_checks.specs.Passed.{Windowed, Passed}
-use Rattle.costs.specs.Cost.{cost, bounded, capped}
+use Rattle.block_checks.specs.Passed.{Passed}
+use Rattle.costs.specs.Cost.{cost, capped}
 use Rattle.costs.proofs.View.{Cost, at-inf, at-fin, view}
 use Rattle.costs.proofs.Order.{same-test}
 use Rattle.costs.proofs.Sum.{finite-terms}

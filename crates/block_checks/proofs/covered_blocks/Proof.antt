@@ -1,5 +1,4 @@
 -- `covered_blocks` meets its contract: two sides of at most 32. Assumes nothing.
-use Prim.Native.Nat.{_*_}
 use native.Mathlib.Nat.{mul-le-mul, lt-of-le-of-lt}
 use borrow.Author.Needs.{needs}
 use lib.Dec.{lit<}

@@ -2,7 +2,7 @@
 use mathlib.Core.Path.{_≡_, sym, _∙_}
 use mathlib.Core.Bool.{Bool, true, false, _&&_}
 use borrow.Author.Tests.{le-leb, lt-leb}
-use lib.Dec.{leb, lit<}
+use lib.Dec.{lit<}
 use Rattle.block.specs.Checks.{trellisRoom, states}
 use Rattle.block_checks.proofs.Room.{whole-times}
 use Rattle.block_checks.proofs.trellis_room.Statement.{statement}
