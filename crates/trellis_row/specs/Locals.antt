@@ -1,5 +1,5 @@
 -- What is worked out once for all counts that share a context: the local cost of each candidate, and the first least among the nonzero ones.
-use Prim.Native.Nat.{ℕ, _≤_, _<_}
+use Prim.Native.Nat.{ℕ, _+_, _≤_, _<_}
 use mathlib.Core.Path.{_≡_}
 use mathlib.Core.Bool.{true, false, cond}
 use mathlib.Core.List.{List}
@@ -12,6 +12,9 @@ use Rattle.candidates.specs.declared.Candidates.{Candidates}
 use Rattle.least_cost.specs.Position.{nz}
 use Rattle.least_cost.specs.Search.{least, holder, nonzeros, hasZero}
 use Rattle.least_cost.specs.Factored.{runnerUp}
+use Rattle.prices.specs.Book.{Book}
+use Rattle.steps.specs.Place.{localIn}
+use Rattle.steps.specs.declared.Place.{Place}
 use Rattle.trellis_row.specs.declared.locals.Least.{Least}
 use Rattle.trellis_row.specs.declared.locals.Locals.{Locals}
 
@@ -71,3 +74,7 @@ noted l j level x y =
       «zero_first» = cond zero x (l .«zero_first»);
       «zero_second» = cond zero y (l .«zero_second»);
     }
+
+-- l holds the local costs in a context; past the last context, nothing is held
+pub record Held (book : Book) (x : Place) (levels : List ℤ) (context : ℕ) (l : Locals) : Type 0 where
+  pub located : context + 1 < 14850 → Located (localIn book x context 0) (localIn book x context 1) levels l
