@@ -8,7 +8,7 @@ use native.Mathlib.Nat.{add-zero, add-suc, add-mul, le-refl, le-trans, div-mul-l
 use borrow.Author.Tests.{lt-ltb}
 use lib.Pow.{pow-pos, pow-mono}
 use mir.Val.{boolByte}
-use lib.Dec.{T, lit≤, ltb, leb, ltb→lt, leb→le}
+use lib.Dec.{T, lit<, lit≤, ltb, leb, ltb→lt, leb→le}
 use lib.ListN.{length, getD}
 use Rattle.ac_context.specs.Contexts.{strategyOrder, blockContextMap, channelRow, coeffFreqContext, coeffNumNonzeroContext, blockContext, zeroDensityContext, Coefficient, Covered}
 use Rattle.laws.proofs.Table.{at, every}
@@ -122,3 +122,13 @@ context-below {c} {remaining} {k} {prev} p w =
     let same : j + (64 - i - j) ≡ 64 - i = omega arith in
     let most = full i (first-index c k p (w .coded)) (position-below c remaining k p (w .some) (w .left)) in
     omega (arith, rw same at far, most, w .flag)
+
+-- the context with `prev` 1 is the next one
+pub next-context : (c remaining k : ℕ) → zeroDensityContext c remaining k 1 ≡ zeroDensityContext c remaining k 0 + 1
+unfolding zeroDensityContext
+next-context c remaining k = omega arith
+
+pub pair-below : {c remaining k : ℕ} → 0 < c → Coefficient c remaining k 0 → zeroDensityContext c remaining k 0 + 1 < 458
+pair-below {c} {remaining} {k} p w =
+    subst (λ (x : ℕ). x < 458) (next-context c remaining k)
+    (context-below p (record { some = w .some; left = w .left; coded = w .coded; flag = lit< tt }))

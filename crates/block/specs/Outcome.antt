@@ -1,0 +1,35 @@
+-- What a search answers, and what every lent buffer holds afterwards.
+use Prim.Native.Nat.{ℕ}
+use mathlib.Core.Bool.{Bool, true, false}
+use mathlib.Core.List.{List}
+use lib.IntN.{ℤ}
+use lib.ListN.{length, replicate}
+use lib.Ieee.{Float, inf}
+use Rattle.block.specs.declared.Answer.{Answer}
+use Rattle.block.specs.declared.Answer.the-variants.{Cost, Count, Refused}
+
+-- what a search may write to
+pub record Lent : Type 0 where
+  pub levels : List ℤ
+  pub choices : List ℕ
+  pub rowA : List Float
+  pub rowB : List Float
+
+-- a search's answer, and what it leaves
+pub record Result : Type 0 where
+  pub answer : Answer
+  pub lent : Lent
+
+-- all of the working room, surplus included, at its fixed values
+unfoldable pub cleared : Lent → Lent
+cleared l =
+    record {
+      levels = l .levels;
+      choices = replicate (length (l .choices)) 255;
+      rowA = replicate (length (l .rowA)) (inf false);
+      rowB = replicate (length (l .rowB)) (inf false);
+    }
+
+-- refused by one of checks 1 to 14: nothing changes
+abbrev pub refused : ℕ → Lent → Result
+refused number l = record { answer = Refused number; lent = l }

@@ -1,0 +1,4 @@
+pub mod Arrays
+pub mod Listed
+pub mod Scanning
+pub mod Noting

@@ -1,0 +1,73 @@
+-- What is worked out once for all counts that share a context: the local cost of each candidate, and the first least among the nonzero ones.
+use Prim.Native.Nat.{ℕ, _≤_, _<_}
+use mathlib.Core.Path.{_≡_}
+use mathlib.Core.Bool.{true, false, cond}
+use mathlib.Core.List.{List}
+use lib.IntN.{ℤ, pos}
+use lib.ListN.{getD, set, take, length}
+use lib.Ieee.{Float, nan, inf, lt}
+use lib.Dec.{T, eqb}
+use Rattle.bias.specs.Level.{isLevel}
+use Rattle.candidates.specs.declared.Candidates.{Candidates}
+use Rattle.least_cost.specs.Position.{nz}
+use Rattle.least_cost.specs.Search.{least, holder, nonzeros, hasZero}
+use Rattle.least_cost.specs.Factored.{runnerUp}
+use Rattle.trellis_row.specs.declared.locals.Least.{Least}
+use Rattle.trellis_row.specs.declared.locals.Locals.{Locals}
+
+-- the levels that are listed
+abbrev pub listed : Candidates → List ℤ
+listed c = take (c .count) (c .levels)
+
+-- at most five candidates, each within the levels that have a bias
+pub record Usable (c : Candidates) : Type 0 where
+  pub few : c .count ≤ 5
+  pub five : length (c .levels) ≡ 5
+  pub levels : (j : ℕ) → j < c .count → T (isLevel (getD (c .levels) j (pos 0)))
+
+-- before any cost was considered
+unfoldable pub nothing : Least
+nothing = record { cost = inf false; before = inf false; choice = 255 }
+
+-- a cost that is below the least so far takes its place
+unfoldable pub considered : Least → Float → ℕ → Least
+considered l x j = cond (lt x (l .cost)) (record { cost = x; before = l .cost; choice = j }) l
+
+-- l holds the first least of the local costs g of the nonzero levels, what it took the place of, and its index
+pub record FirstLeast (g : ℤ → Float) (levels : List ℤ) (l : Least) : Type 0 where
+  pub cost : l .cost ≡ least g (inf false) (nonzeros levels)
+  pub before : l .before ≡ runnerUp g (inf false) (inf false) (nonzeros levels)
+  pub choice : getD levels (l .choice) (pos 0) ≡ holder g (inf false) (pos 0) (nonzeros levels)
+
+-- costs holds the local cost g of each level
+pub record Each (g : ℤ → Float) (levels : List ℤ) (costs : List Float) : Type 0 where
+  pub at : (j : ℕ) → j < length levels → getD costs j nan ≡ g (getD levels j (pos 0))
+
+-- g is the local cost by level for `prev` 0, h for `prev` 1
+pub record Located (g h : ℤ → Float) (levels : List ℤ) (l : Locals) : Type 0 where
+  pub first : Each g levels (l .first)
+  pub second : Each h levels (l .second)
+  pub least-first : FirstLeast g levels (l .«least_first»)
+  pub least-second : FirstLeast h levels (l .«least_second»)
+  pub zero-first : hasZero levels ≡ true → l .«zero_first» ≡ g (pos 0)
+  pub zero-second : hasZero levels ≡ true → l .«zero_second» ≡ h (pos 0)
+
+-- before any level was noted
+pub record Empty (l : Locals) : Type 0 where
+  pub first : length (l .first) ≡ 5
+  pub second : length (l .second) ≡ 5
+  pub least-first : l .«least_first» ≡ nothing
+  pub least-second : l .«least_second» ≡ nothing
+
+-- one more level, the j-th, with its local costs x and y
+unfoldable pub noted : Locals → ℕ → ℤ → Float → Float → Locals
+noted l j level x y =
+    let zero = eqb (nz level) 0 in
+    record {
+      first = set (l .first) j x;
+      second = set (l .second) j y;
+      «least_first» = cond zero (l .«least_first») (considered (l .«least_first») x j);
+      «least_second» = cond zero (l .«least_second») (considered (l .«least_second») y j);
+      «zero_first» = cond zero x (l .«zero_first»);
+      «zero_second» = cond zero y (l .«zero_second»);
+    }
