@@ -1,5 +1,5 @@
 -- What the call on a biased level answers (document 01, module 3).
-use mathlib.Core.Bool.{Bool, _&&_}
+use mathlib.Core.Bool.{_&&_}
 use lib.IntN.{ℤ}
 use Rattle.bias.specs.declared.DequantBias.{DequantBias}
 use Rattle.bias.specs.Level.{biased, isLevel, validBias}

@@ -1,13 +1,12 @@
 -- `level` meets its contract. Assumes nothing.
 use mathlib.Core.Path.{_≡_, sym, ap, _∙_, subst}
-use mathlib.Core.Bool.{Bool, true, false, _&&_}
+use mathlib.Core.Bool.{Bool, true, false}
 use lib.Dec.{T}
 use lib.IntN.{ℤ}
 use mir.Syntax.{w32}
 use mir.Val.{toZ, ofZ}
 use mir.ValLaws.{toZ-ofZ}
-use Rattle.bias.specs.declared.DequantBias.{DequantBias}
-use Rattle.bias.specs.Level.{isLevel, validBias, biased}
+use Rattle.bias.specs.Level.{isLevel, biased}
 use Rattle.rdoq.specs.Leaf.{real}
 use Rattle.rdoq.specs.Dequant.{levelReply}
 use Rattle.rdoq.proofs.dequant.level.Statement.{statement}

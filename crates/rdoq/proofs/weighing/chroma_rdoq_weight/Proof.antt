@@ -1,5 +1,5 @@
 -- `chroma_rdoq_weight` meets its contract. Assumes nothing.
-use mathlib.Core.Path.{_≡_, sym, ap, _∙_}
+use mathlib.Core.Path.{sym, ap, _∙_}
 use mathlib.Core.Bool.{true}
 use Rattle.rdoq.specs.Leaf.{real}
 use Rattle.rdoq.specs.Weighing.{chromaReply}

@@ -1,8 +1,7 @@
 -- `rdoq_distortion_weight` meets its contract. Assumes nothing.
 use borrow.Author.Needs.{needs}
-use mathlib.Core.Path.{_≡_, sym, ap, _∙_}
+use mathlib.Core.Path.{sym, ap, _∙_}
 use mathlib.Core.Bool.{true}
-use native.Mathlib.Omega.{arith}
 use borrow.Author.Tests.{le-leb, lt-leb}
 use Rattle.rdoq.specs.Leaf.{real}
 use Rattle.rdoq.specs.Weighing.{distortionReply}
