@@ -4,6 +4,7 @@ use mathlib.Core.Bool.{Bool, true, false, cond, not, _&&_}
 use mathlib.Core.List.{List, [], _∷_, List·Memᴰ as Mem, List·Memᴰ·head as here, List·Memᴰ·tail as there}
 use Prim.Native.Nat.{ℕ, zero, suc, _+_, _-_, _*_, _/_, _%_, _≤_, _<_}
 use native.Mathlib.Omega.{arith}
+use native.Mathlib.Nat.{le-refl}
 use lib.IntN.{ℤ, pos}
 use lib.Dec.{T, eqb, leb, lit≤}
 use lib.ListN.{length, getD, set, length-set}
@@ -20,11 +21,12 @@ use Rattle.prices.specs.Book.{Book}
 use Rattle.steps.specs.Place.{localAt}
 use Rattle.steps.specs.declared.Place.{Place}
 use Rattle.candidates.specs.declared.Candidates.{Candidates}
-use Rattle.trellis_row.specs.Locals.{listed}
+use Rattle.trellis_row.specs.Locals.{listed, Held}
 use Rattle.trellis_row.specs.Chosen.{with, stateCost, stateLevel, nonzeroCost, zeroCost, ZeroAt, Settled}
 use Rattle.trellis_row.specs.Row.{tailAt, nonzeroTail, zeroTail, rowCost, rowLevel, EntryIs, RowIs, Elsewhere, Workable}
 use Rattle.trellis_row.proofs.Choosing.{zero-listed}
 use Rattle.trellis_row.specs.declared.chosen.Chosen.{Chosen}
+use Rattle.trellis_row.specs.declared.locals.Locals.{Locals}
 use Rattle.trellis_row.specs.declared.row.Span.{Span}
 
 -- ---- two entries more, of a list and of another from `at` on
@@ -64,7 +66,7 @@ elsewhere-pair choices from m n =
       size = simp length-set;
       ahead = λ j h. both-kept choices from j m n 0 h;
       behind = λ j h.
-          getD-set-other (set choices from m) (from + 1) j n 0 (λ e. absurd (omega arith)) ∙ getD-set-other choices from j m 0 (λ e. absurd (omega arith))
+          getD-set-other (set choices from m) (from + 1) j n 0 (λ e. absurd (omega arith)) ∙ getD-set-other choices from j m 0 (λ e. absurd (omega arith));
     }
 
 pub elsewhere-none : (from : ℕ) (choices : List ℕ) → Elsewhere from 0 choices choices
@@ -75,7 +77,7 @@ elsewhere-more v w =
     record {
       size = w .size ∙ v .size;
       ahead = λ j h. w .ahead j (omega arith) ∙ v .ahead j h;
-      behind = λ j h. w .behind j (omega arith) ∙ v .behind j (omega arith)
+      behind = λ j h. w .behind j (omega arith) ∙ v .behind j (omega arith);
     }
 
 -- ---- where nothing finite follows, nothing is finite
@@ -183,7 +185,7 @@ module _ (book : Book) (x : Place) (levels : List ℤ) (next : List Float) (s : 
       record {
         size = ap length e ∙ simp length-set;
         elsewhere = rw f (elsewhere-pair choices (at + 2 * (r - least)) m n);
-        more = λ w. rw (e, f) (row-more book x levels next s least r at (2 * (r - least)) row choices a b m n room space w p q)
+        more = λ w. rw (e, f) (row-more book x levels next s least r at (2 * (r - least)) row choices a b m n room space w p q);
       }
 
   pub written-settled : Settled (localAt book x r 0) (nonzeroTail next s r) (zeroTail levels next s r) levels (record { cost = a; choice = m })
@@ -198,3 +200,63 @@ module _ (book : Book) (x : Place) (levels : List ℤ) (next : List Float) (s : 
   written-dead G u v p q =
       written (rw p (entry-dead book x levels next s least r (2 * (r - least)) 0 m first-count first-prev (λ z. G 0 z (lit≤ tt)) u v))
       (rw q (entry-dead book x levels next s least r (2 * (r - least) + 1) 1 n second-count second-prev (λ z. G 1 z (lit≤ tt)) u v))
+
+-- ---- the whole row
+pub workable-less : {book : Book} {x : Place} {c : Candidates} {next : List Float} {s : Span} {most r : ℕ} → r ≤ most → Workable book x c next s most → Workable book x c next s r
+workable-less h w =
+    record {
+      priced = w .priced;
+      usable = w .usable;
+      covers = w .covers;
+      coded = w .coded;
+      left = omega (arith, w .left);
+      offset = w .offset;
+      locals = λ r' p q k. w .locals r' p q (omega arith);
+      starts = w .starts;
+      room = w .room;
+      tails = w .tails;
+    }
+
+pub row-none : (book : Book) (x : Place) (levels : List ℤ) (next : List Float) (s : Span) (least at : ℕ) (row : List Float) (choices : List ℕ) → RowIs book x levels next s least at 0 row choices
+row-none book x levels next s least at row choices = record { entry = λ i h. absurd (omega arith) }
+
+pub held-none : (book : Book) (x : Place) (levels : List ℤ) (l : Locals) → Held book x levels 14850 l
+held-none book x levels l = record { located = λ h. absurd (omega arith) }
+
+-- the counts from `least` up to r, r not included, are done
+pub record SoFar (book : Book) (x : Place) (levels : List ℤ) (next : List Float) (s : Span) (at least most r : ℕ) (row row' : List Float) (choices choices' : List ℕ) (context : ℕ) (l : Locals) : Type 0 where
+  pub from : least ≤ r
+  pub upto : r ≤ most + 1
+  pub size : length row' ≡ length row
+  pub elsewhere : Elsewhere at (2 * (r - least)) choices choices'
+  pub done : RowIs book x levels next s least at (2 * (r - least)) row' choices'
+  pub held : Held book x levels context l
+
+pub so-far-none : (book : Book) (x : Place) (levels : List ℤ) (next : List Float) (s : Span) (at least most : ℕ) (row : List Float) (choices : List ℕ) (l : Locals) → least ≤ most
+    → SoFar book x levels next s at least most least row row choices choices 14850 l
+so-far-none book x levels next s at least most row choices l h =
+    let nothing : 2 * (least - least) ≡ 0 = omega arith in
+    record {
+      from = le-refl least;
+      upto = omega arith;
+      size = refl;
+      elsewhere = rw nothing (elsewhere-none at choices);
+      done = rw nothing (row-none book x levels next s least at row choices);
+      held = held-none book x levels l;
+    }
+
+pub so-far-more : {book : Book} {x : Place} {levels : List ℤ} {next : List Float} {s : Span} {at least most r : ℕ} {row row' row'' : List Float} {choices choices' choices'' : List ℕ} {context context' : ℕ} {l l' : Locals}
+    → r ≤ most → SoFar book x levels next s at least most r row row' choices choices' context l
+    → Held book x levels context' l' → length row'' ≡ length row' → Elsewhere (at + 2 * (r - least)) 2 choices' choices''
+    → (RowIs book x levels next s least at (2 * (r - least)) row' choices' → RowIs book x levels next s least at (2 * (r - least) + 2) row'' choices'')
+    → SoFar book x levels next s at least most (r + 1) row row'' choices choices'' context' l'
+so-far-more {at = at} {least} {most} {r} h w held size elsewhere more =
+    let step : 2 * (r + 1 - least) ≡ 2 * (r - least) + 2 = omega (arith, w .from) in
+    record {
+      from = omega (arith, w .from);
+      upto = omega arith;
+      size = size ∙ w .size;
+      elsewhere = rw step (elsewhere-more (w .elsewhere) elsewhere);
+      done = rw step (more (w .done));
+      held = held;
+    }

@@ -256,3 +256,57 @@ fn row_state(
     );
     Cache { context, locals }
 }
+
+// The states of the counts from `least` to `most`: their costs from the front of `current`, their choices from `at` on.
+pub fn fill_row(
+    clusters: u32,
+    map: &[u8],
+    configs: &[u8],
+    symbols: &[f32],
+    ready: &[f32],
+    place: Place,
+    candidates: Candidates,
+    next: &[f32],
+    span: Span,
+    current: &mut [f32],
+    choices: &mut [u8],
+    at: usize,
+    least: usize,
+    most: usize,
+)
+    requires { ⌜ Workable (bookOf clusters (now map) (now configs) (now symbols) (now ready)) place candidates (now next) span most ⌝ }
+    requires { ⌜ (least ≤ most) × ((2 * (most - least) + 1 < length (now current)) × (at + 2 * (most - least) + 1 < length (now choices))) ⌝ }
+    ensures { λ s. ⌜ length (now (current .exit)) ≡ length (now (current .entry)) ⌝ }
+    ensures { λ s. ⌜ Elsewhere at (2 * (most + 1 - least)) (now (choices .entry)) (now (choices .exit)) ⌝ }
+    ensures { λ s. ⌜ RowIs (bookOf clusters (now (map .entry)) (now (configs .entry)) (now (symbols .entry)) (now (ready .entry))) place (listed candidates) (now (next .entry)) span least at (2 * (most + 1 - least)) (now (current .exit)) (now (choices .exit)) ⌝ }
+{
+    let distortion = locals::distortions(place, candidates);
+    let zero = chosen::zero_index(candidates);
+    let mut cache = Cache {
+        context: 14850,
+        locals: Locals::none(),
+    };
+    let mut r = least;
+    while r <= most {
+        cache = row_state(
+            clusters,
+            map,
+            configs,
+            symbols,
+            ready,
+            place,
+            candidates,
+            distortion,
+            zero,
+            next,
+            span,
+            current,
+            choices,
+            at,
+            least,
+            r,
+            cache,
+        );
+        r += 1;
+    }
+}

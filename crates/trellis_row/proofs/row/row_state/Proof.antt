@@ -50,9 +50,9 @@ returns c =
     let pair = c .before .before .before .before .write-pair .ensures in
     let dead = c .before .before .before .before .before .unreachable .ensures in
     let w = written-dead _ _ _ _ _ _ _ _ _ _ _ _ _ _ _ _ (rest .0) (rest .1 .0) (rest .1 .1) (pair .0) (pair .1)
-        (λ p q. pre .0 .locals _ p q (le-refl _))
-        (not-below _ (nonzero-tail-cost (pre .0) _) (rw nonzero at (infinite .0)))
-        (not-below _ (zero-tail-cost (pre .0) _ _) (rw zero at (infinite .1))) (dead .0) (dead .1) in
+    (λ p q. pre .0 .locals _ p q (le-refl _))
+    (not-below _ (nonzero-tail-cost (pre .0) _) (rw nonzero at (infinite .0)))
+    (not-below _ (zero-tail-cost (pre .0) _ _) (rw zero at (infinite .1))) (dead .0) (dead .1) in
     (pre .1 .1 .1 .1 .0, (w .size, (w .elsewhere, w .more)))
 
 context-requires : tie.Need-context-requires
@@ -87,12 +87,12 @@ returns-2 c =
     let context = c .before .before .before .before .before .before .before .before .before .context .ensures .0 in
     let locals = c .before .before .before .before .before .before .before .before .locals-for .ensures in
     let states = c .before .before .before .before .before .settle .ensures _ _ locals
-        (λ q m. rw context (pre .0 .locals _ 0 q (le-refl _) (lit≤ tt) m))
-        (λ q m. rw context (pre .0 .locals _ 1 q (le-refl _) (lit≤ tt) m))
-        (pre .1 .1 .0) (rw nonzero (nonzero-tail-cost (pre .0) _)) (rw zero (zero-tail-cost (pre .0) _ _)) (λ h. tail .0 (pre .1 .1 .1 .0 h)) in
+    (λ q m. rw context (pre .0 .locals _ 0 q (le-refl _) (lit≤ tt) m))
+    (λ q m. rw context (pre .0 .locals _ 1 q (le-refl _) (lit≤ tt) m))
+    (pre .1 .1 .0) (rw nonzero (nonzero-tail-cost (pre .0) _)) (rw zero (zero-tail-cost (pre .0) _ _)) (λ h. tail .0 (pre .1 .1 .1 .0 h)) in
     let pair = c .before .before .before .before .write-pair2 .ensures in
     let w = written-settled _ _ _ _ _ _ _ _ _ _ _ _ _ _ _ _ (rest .0) (rest .1 .0) (rest .1 .1) (pair .0) (pair .1)
-        (rw (nonzero, zero, context) at (states .0)) (rw (nonzero, zero, context) at (states .1)) in
+    (rw (nonzero, zero, context) at (states .0)) (rw (nonzero, zero, context) at (states .1)) in
     (record { located = λ _. locals }, (w .size, (w .elsewhere, w .more)))
 
 pub row-state-spec : {M : Type 1} → statement M
