@@ -1,4 +1,6 @@
 // The steps that the searches share.
+pub mod reading;
+
 use bias::DequantBias;
 use prices::Pair;
 ghost use mathlib.Core.Path.{_≡_};
