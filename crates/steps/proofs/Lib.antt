@@ -1,2 +1,4 @@
 pub mod Zero
 pub mod Spots
+pub mod Counting
+pub mod Tails

@@ -71,3 +71,9 @@ pub record Spotted (b : Block) (log2 i : ℕ) (s : Spot) : Type 0 where
   pub place-is : s .place ≡ placeOf b log2 i
   pub listed-is : listed (s .candidates) ≡ candidatesAt (windowOf (covered b)) b i
   pub level-is : s .level ≡ inputAt b (covered b + i)
+
+-- the levels of a whole block can be read through its scan, and from scan position `from` on each is within ±32,767
+pub record Whole (c from : ℕ) (scan : List ℕ) (levels : List ℤ) : Type 0 where
+  pub size : length scan ≡ 64 * c
+  pub within : (k : ℕ) → k < length scan → getD scan k 0 < length levels
+  pub level : (k : ℕ) → from ≤ k → k < length scan → T (isCurrent (levelAt scan levels k))

@@ -1,5 +1,6 @@
 // The steps that the searches share.
 pub mod reading;
+pub mod tokens;
 
 use bias::DequantBias;
 use prices::Pair;
