@@ -2,3 +2,4 @@ pub mod Zero
 pub mod Spots
 pub mod Counting
 pub mod Tails
+pub mod Local
