@@ -1,19 +1,17 @@
 -- A biased level under a record that check 10 passes: it is finite and within ±32,768, and an f32 holds it. Assumes nothing.
 use mathlib.Core.Path.{_≡_, refl, sym, ap, _∙_, subst}
-use Prim.Native.Nat.{ℕ, zero, suc, _+_, _-_, _*_, _^_, _≤_, _<_, zero-le, suc-le-suc}
-use native.Mathlib.Nat.{le-refl, le-suc, le-trans, le-of-eq, mul-one, mul-comm, mul-assoc, mul-pos, mul-le-mul, mul-le-mul-right, zero-lt-suc, lt-irrefl, lt-of-lt-of-le, one-mul, mul-right-comm, eq-zero-or-pos, zero-mul, sub-le}
+use Prim.Native.Nat.{ℕ, zero, suc, _*_, _^_, _≤_, _<_, zero-le, suc-le-suc}
+use native.Mathlib.Nat.{le-suc, le-trans, le-of-eq, mul-one, mul-comm, mul-pos, mul-le-mul, mul-le-mul-right, lt-irrefl, lt-of-lt-of-le, one-mul, mul-right-comm, zero-mul}
 use native.Mathlib.Omega.{arith}
-use mathlib.Core.Bool.{Bool, true, false, not, _&&_, _||_, cond, Bool·beq}
-use mathlib.Core.Logic.{inl, inr}
-use lib.Dec.{T, leb, ltb, eqb, leb→le, le→leb, ltb→lt, eqb→eq, eqb-refl, lit<, lit≤}
+use mathlib.Core.Bool.{Bool, true, false, not, _&&_, _||_, cond}
+use lib.Dec.{T, ltb, eqb, leb→le, le→leb, ltb→lt, eqb→eq, lit<, lit≤}
 use borrow.Author.Tests.{ne-eqb}
-use lib.IntN.{ℤ, pos, negsuc, natAbs}
-use lib.Ieee.{Float, nan, inf, fin, Format, binary32, prec, emax, low, up, down, unlike, odd, units, round, sum, add, neg, sub, div, le, lt, eq, ofInt, ofBits, fits, isNan}
-use lib.Ieee.Fits.{down-pos, round-is, and-l, and-r, neg-fits, sub-fits}
+use lib.IntN.{ℤ, pos, negsuc}
+use lib.Ieee.{Float, nan, inf, fin, binary32, up, down, unlike, round, neg, sub, div, le, eq, ofInt, ofBits, fits, isNan}
+use lib.Ieee.Fits.{down-pos, and-l, and-r, neg-fits, sub-fits}
 use lib.Ieee.Exact.{HasValue}
 use lib.Ieee.Back.{round-whole}
-use lib.Ieee.Order.{drop, kept}
-use lib.Ieee.Scale.{finite, overflow}
+use lib.Ieee.Scale.{finite}
 use Rattle.costs.specs.Cost.{bounded}
 use Rattle.costs.proofs.Bound.{bounded-finite, bounded-more, round-bounded, neg-bounded}
 use Rattle.costs.proofs.Difference.{round-sign, diff-bounded}

@@ -1,9 +1,9 @@
 -- A biased level by the tests that the code makes on the level's bits. Assumes nothing.
-use mathlib.Core.Path.{_≡_, refl, sym, ap, _∙_, subst}
-use Prim.Native.Nat.{ℕ, zero, suc, _-_, _^_, _≤_, _<_}
+use mathlib.Core.Path.{_≡_, refl, sym, ap, _∙_}
+use Prim.Native.Nat.{zero, suc, _^_}
 use native.Mathlib.Omega.{arith}
-use lib.Dec.{T, leb, le→leb, leb→le, lt→ltb}
-use lib.IntN.{ℤ, pos, negsuc, natAbs}
+use lib.Dec.{T, le→leb, leb→le, lt→ltb}
+use lib.IntN.{ℤ, pos, negsuc}
 use lib.Ieee.{Float, binary32, ofInt, inFloat}
 use mir.Syntax.{w32}
 use mir.Val.{SFits, ofZ, toZ}

@@ -1,6 +1,6 @@
 -- The value that a decoder restores from a quantised level, with its bias (ISO/IEC 18181-1, quantisation bias), and the
 -- records of document 01's check 10. Definitions only.
-use Prim.Native.Nat.{ℕ, zero, suc}
+use Prim.Native.Nat.{zero, suc}
 use mathlib.Core.Bool.{Bool, false, _&&_}
 use lib.Dec.{leb}
 use lib.IntN.{ℤ, pos, negsuc, natAbs}

@@ -1,13 +1,12 @@
 -- Levels as the machine holds them, and tests on them. Assumes nothing.
 use mathlib.Core.Path.{_≡_, refl, sym, ap, _∙_, subst}
 use mathlib.Core.Bool.{Bool, true, false}
-use Prim.Native.Nat.{ℕ, zero, suc, _+_, _≤_, _<_}
-use native.Mathlib.Nat.{le-refl, le-trans, le-suc}
+use Prim.Native.Nat.{ℕ, zero, suc, _+_, _≤_}
+use native.Mathlib.Nat.{le-refl}
 use native.Mathlib.Omega.{arith}
-use borrow.Author.Tests.{eq-eqb, ne-eqb, eqb-true}
-use lib.Dec.{T, eqb, eqb→eq, eqb-refl, leb→le, lit≤}
+use borrow.Author.Tests.{eq-eqb, eqb-true}
+use lib.Dec.{T, leb→le, lit≤}
 use lib.IntN.{ℤ, pos, negsuc, natAbs, sucℤ, predℤ, _+ℤ_, _-ℤ_, +ℤ-one, -ℤ-one}
-use lib.Signed.{mag}
 use mir.Syntax.{w32}
 use mir.Val.{SFits, ofZ, toZ}
 use mir.ValLaws.{toZ-ofZ}

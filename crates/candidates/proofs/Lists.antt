@@ -1,14 +1,13 @@
 -- The candidates as the code makes them, level by level. Assumes nothing.
-use mathlib.Core.Path.{_≡_, refl, sym, ap, _∙_, subst}
+use mathlib.Core.Path.{_≡_, refl, sym, ap, _∙_}
 use mathlib.Core.Bool.{Bool, true, false, cond, _||_, true≢false}
 use mathlib.Core.List.{List, [], _∷_}
-use Prim.Native.Nat.{ℕ, zero, suc, _+_, _≤_, _<_}
-use native.Mathlib.Nat.{le-refl}
+use Prim.Native.Nat.{ℕ, zero, suc, _+_, _≤_}
 use native.Mathlib.Omega.{arith}
 use borrow.Author.Tests.{ne-eqb, lt-ltb}
-use lib.Dec.{T, ltb}
+use lib.Dec.{ltb}
 use lib.ListN.{set, length}
-use lib.IntN.{ℤ, pos, negsuc, natAbs, sucℤ, predℤ, suc-pred, pred-suc}
+use lib.IntN.{ℤ, pos, negsuc, sucℤ, predℤ, suc-pred}
 use lib.Signed.{ltZ}
 use Rattle.candidates.specs.Candidates.{eqZ, without, dropRepeats, keptOf, filled}
 use Rattle.candidates.specs.Steps.{withZero, offer}

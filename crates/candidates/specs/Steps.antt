@@ -1,6 +1,6 @@
 -- What the parts of the code do: steps on the way to the candidates, of no interest of their own. Definitions only.
 use Prim.Native.Nat.{_+_}
-use mathlib.Core.Bool.{Bool, cond, _||_}
+use mathlib.Core.Bool.{cond, _||_}
 use mathlib.Core.List.{[], _∷_}
 use lib.ListN.{set}
 use lib.IntN.{ℤ, pos}

@@ -52,7 +52,7 @@ module _ (v : Window) (b : Block) (fits : covered b + v .length ≤ 64 * covered
       ∙ ap (λ (j : ℕ). nonzerosOf (inputFrom b k n ++ inputFrom b j p)) (sym e)
       ∙ ap nonzerosOf (stretches b k n p)
       ∙ past-nonzeros b k (n + p)
-      ∙ ap (nonzerosAmong b k) long
+      ∙ ap (nonzerosAmong (b .scan) (b .levels) k) long
 
 module _ (w : ℕ) (v : Window) (book : Book) (b : Block) (P : Passed v b) where
   input-listed : (i : ℕ) → i < v .length → Mem (inputAt b (covered b + i)) (candidatesAt v b i)
@@ -93,14 +93,14 @@ module _ (w : ℕ) (v : Window) (book : Book) (b : Block) (P : Passed v b) where
       }
 
   input-whole : inputRemaining b (covered b) ≡ nz (inputAt b (covered b)) + inputAfter b 0
-  unfolding inputRemaining inputAfter nonzerosAmong
+  unfolding inputRemaining inputAfter inputAt nonzerosAmong
   input-whole =
       let some = P .some in
       let c : ℕ = covered b in
       let long : 64 * c - c ≡ suc (64 * c - (c + 0 + 1)) = omega arith in
       let after : suc c ≡ c + 0 + 1 = omega arith in
-      subst⁻¹ (λ (j : ℕ). nonzerosAmong b c j ≡ nz (inputAt b c) + nonzerosAmong b (c + 0 + 1) (64 * c - (c + 0 + 1))) long
-      (ap (λ (k : ℕ). nz (inputAt b c) + nonzerosAmong b k (64 * c - (c + 0 + 1))) after)
+      subst⁻¹ (λ (j : ℕ). nonzerosAmong (b .scan) (b .levels) c j ≡ nz (inputAt b c) + nonzerosAmong (b .scan) (b .levels) (c + 0 + 1) (64 * c - (c + 0 + 1))) long
+      (ap (λ (k : ℕ). nz (inputAt b c) + nonzerosAmong (b .scan) (b .levels) k (64 * c - (c + 0 + 1))) after)
 
   -- the band binds the counts later than a position only
   pub count-near :

@@ -26,20 +26,21 @@ use Rattle.least_cost.proofs.Whole.{Banded, Sound}
 use Rattle.least_cost.proofs.Infinite.{Room, OneCapped, AllCapped, none-capped, more-capped, capped-priced, Capped}
 use Rattle.prices.specs.Book.{Book}
 use Rattle.prices.specs.Checks.{bookRefusal}
+use Rattle.scan.specs.Scan.{levelAt}
 use Rattle.weights.specs.declared.Window.{Window}
 use Rattle.problem.specs.Tokens.{pastLength}
 use Rattle.problem.proofs.Local.{current-level, candidates-level, token-capped, local-capped, lambda-capped, count-capped}
 
 -- ---- counts
 
-pub among-most : (b : Block) (k n : ℕ) → nonzerosAmong b k n ≤ n
+pub among-most : (scan : List ℕ) (levels : List ℤ) (k n : ℕ) → nonzerosAmong scan levels k n ≤ n
 unfolding nonzerosAmong
-among-most b k zero = le-refl 0
-among-most b k (suc n) = omega (arith, nz-le (inputAt b k), among-most b (suc k) n)
+among-most scan levels k zero = le-refl 0
+among-most scan levels k (suc n) = omega (arith, nz-le (levelAt scan levels k), among-most scan levels (suc k) n)
 
 pub past-most : (v : Window) (b : Block) → pastWindow v b ≤ pastLength v b
 unfolding pastWindow inputRemaining pastLength
-past-most v b = among-most b (covered b + v .length) (64 * covered b - (covered b + v .length))
+past-most v b = among-most (b .scan) (b .levels) (covered b + v .length) (64 * covered b - (covered b + v .length))
 
 pub positions-length : (w : ℕ) (v : Window) (book : Book) (b : Block) (i n : ℕ) → length (positionsFrom w v book b i n) ≡ n
 unfolding positionsFrom

@@ -44,8 +44,8 @@ infinite-is x h = go (view x h)
 
 -- ---- the levels of a choice, with those past the window
 
-pub past-nonzeros : (b : Block) (k n : ℕ) → nonzerosOf (inputFrom b k n) ≡ nonzerosAmong b k n
-unfolding inputFrom nonzerosAmong remaining
+pub past-nonzeros : (b : Block) (k n : ℕ) → nonzerosOf (inputFrom b k n) ≡ nonzerosAmong (b .scan) (b .levels) k n
+unfolding inputFrom inputAt nonzerosAmong remaining
 past-nonzeros b k zero = refl
 past-nonzeros b k (suc n) = ap (λ (m : ℕ). nz (inputAt b k) + m) (past-nonzeros b (suc k) n)
 
@@ -164,7 +164,7 @@ module _ (book : Book) (ok : bookRefusal book ≡ 0) (v : Window) (b : Block) (P
       let fits = P .window .fits in
       let k : ℕ = covered b + v .length in
       let n : ℕ = 64 * covered b - k in
-      ap not (tokens-finite n (nonzerosAmong b k n) k prev 0 (fin false 0 (pos 0)) (sym (past-nonzeros b k n)) (omega arith) (omega arith) (omega arith) zero-capped)
+      ap not (tokens-finite n (nonzerosAmong (b .scan) (b .levels) k n) k prev 0 (fin false 0 (pos 0)) (sym (past-nonzeros b k n)) (omega arith) (omega arith) (omega arith) zero-capped)
       ∙ twice (someInfinite (levelTokens book b k prev (inputFrom b k n)))
 
   -- ---- the count

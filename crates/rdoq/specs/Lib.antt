@@ -1,2 +1,5 @@
 pub mod Leaf
 pub mod Contexts
+pub mod Dequant
+pub mod Weighing
+pub mod Levels

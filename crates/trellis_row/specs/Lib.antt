@@ -1,2 +1,3 @@
 pub mod Locals
 pub mod Chosen
+pub mod Row

@@ -1,5 +1,5 @@
 -- What is worked out once for all counts that share a context: the local cost of each candidate, and the first least among the nonzero ones.
-use Prim.Native.Nat.{ℕ, _≤_, _<_}
+use Prim.Native.Nat.{ℕ, _+_, _≤_, _<_}
 use mathlib.Core.Path.{_≡_}
 use mathlib.Core.Bool.{true, false, cond}
 use mathlib.Core.List.{List}
@@ -8,22 +8,15 @@ use lib.ListN.{getD, set, take, length}
 use lib.Ieee.{Float, nan, inf, lt}
 use lib.Dec.{T, eqb}
 use Rattle.bias.specs.Level.{isLevel}
-use Rattle.candidates.specs.declared.Candidates.{Candidates}
+pub use Rattle.steps.specs.Plan.{listed, Usable}
 use Rattle.least_cost.specs.Position.{nz}
 use Rattle.least_cost.specs.Search.{least, holder, nonzeros, hasZero}
 use Rattle.least_cost.specs.Factored.{runnerUp}
+use Rattle.prices.specs.Book.{Book}
+use Rattle.steps.specs.Place.{localIn}
+use Rattle.steps.specs.declared.Place.{Place}
 use Rattle.trellis_row.specs.declared.locals.Least.{Least}
 use Rattle.trellis_row.specs.declared.locals.Locals.{Locals}
-
--- the levels that are listed
-abbrev pub listed : Candidates → List ℤ
-listed c = take (c .count) (c .levels)
-
--- at most five candidates, each within the levels that have a bias
-pub record Usable (c : Candidates) : Type 0 where
-  pub few : c .count ≤ 5
-  pub five : length (c .levels) ≡ 5
-  pub levels : (j : ℕ) → j < c .count → T (isLevel (getD (c .levels) j (pos 0)))
 
 -- before any cost was considered
 unfoldable pub nothing : Least
@@ -71,3 +64,7 @@ noted l j level x y =
       «zero_first» = cond zero x (l .«zero_first»);
       «zero_second» = cond zero y (l .«zero_second»);
     }
+
+-- l holds the local costs in a context; past the last context, nothing is held
+pub record Held (book : Book) (x : Place) (levels : List ℤ) (context : ℕ) (l : Locals) : Type 0 where
+  pub located : context + 1 < 14850 → Located (localIn book x context 0) (localIn book x context 1) levels l

@@ -5,7 +5,7 @@ use mathlib.Core.List.{[], _∷_, map}
 use lib.IntN.{pos, negsuc}
 use lib.Ieee.{fin, ofInt, add, sub, mul, div, lt}
 use Rattle.weights.specs.Window.{windowLen, restoreLen, baseLen}
-use Rattle.weights.specs.Weights.{lambdaOf, chromaWeight, distortionWeight}
+use Rattle.weights.specs.Weights.{chromaWeight, distortionWeight}
 
 windows : map windowLen (1 ∷ 2 ∷ 16 ∷ 32 ∷ []) ≡ 63 ∷ 126 ∷ 1008 ∷ 1024 ∷ []
 windows = refl

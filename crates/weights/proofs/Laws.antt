@@ -1,26 +1,24 @@
 -- Under settings that check 10 passes every weight is a positive float of at most 2 ^ 12, and lambda and the rate of a restored level lie in
 -- 2 ^ -30 to 2 ^ 30. Assumes nothing.
 use mathlib.Core.Path.{_≡_, refl, sym, ap, _∙_, subst}
-use mathlib.Core.Logic.{_⊎_, inl, inr}
 use mathlib.Core.Bool.{Bool, true, false, not, _&&_, cond}
-use Prim.Native.Nat.{ℕ, zero, suc, _+_, _*_, _^_, _≤_, _<_, max, min, suc-le-suc, zero-le}
-use native.Mathlib.Nat.{le-refl, le-trans, le-of-eq, mul-one, one-mul, zero-mul, mul-comm, mul-assoc, mul-right-comm, mul-pos, mul-le-mul-right, lt-irrefl, lt-of-lt-of-le}
+use Prim.Native.Nat.{ℕ, zero, suc, _+_, _*_, _^_, _≤_, _<_, max, min}
+use native.Mathlib.Nat.{le-refl, le-trans, le-of-eq, mul-one, one-mul, zero-mul, mul-comm, mul-right-comm, mul-pos, mul-le-mul-right, lt-irrefl, lt-of-lt-of-le}
 use native.Mathlib.Omega.{arith}
 use borrow.Author.Tests.{ne-eqb}
 use lib.Pow.{pow-add}
 use lib.Dec.{T, ltb, eqb, le→leb, lit<, lit≤}
 use lib.IntN.{ℤ, pos, negsuc}
-use lib.Ieee.{Float, nan, inf, fin, binary32, up, down, unlike, round, ofInt, add, sub, mul, div, le, isNan, units, odd, prec, emax, low}
+use lib.Ieee.{Float, nan, inf, fin, binary32, up, down, unlike, round, ofInt, add, sub, mul, div, le, isNan, units, odd, prec, low}
 use lib.Ieee.Fits.{down-pos, and-l, and-r, round-is}
 use lib.Ieee.Order.{drop, kept}
 use lib.Ieee.Exact.{HasValue}
 use lib.Ieee.Back.{round-whole}
 use lib.Ieee.Positive.{positive}
 use lib.Ieee.Scale.{finite}
-use Rattle.costs.specs.Cost.{cost, bounded}
+use Rattle.costs.specs.Cost.{bounded}
 use Rattle.costs.proofs.Bound.{bounded-finite, bounded-le, round-bounded, sub-bounded, mul-bounded}
 use Rattle.costs.proofs.Product.{positive-cost, square-cost}
-use Rattle.costs.proofs.Sum.{round-cost}
 use Rattle.costs.proofs.Difference.{signOf, round-sign, diff-bounded}
 use Rattle.weights.specs.declared.Settings.{Settings}
 use Rattle.weights.specs.Weights.{clamp, whole, zeroF, oneF, twoF, chromaWeight, distortionWeight}

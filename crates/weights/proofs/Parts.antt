@@ -2,15 +2,15 @@
 use mathlib.Core.Path.{_≡_, refl, sym, ap, _∙_, subst}
 use mathlib.Core.Logic.{_⊎_, inl, inr}
 use mathlib.Core.Bool.{Bool, true, false, not, _&&_, _||_, cond, true≢false}
-use Prim.Native.Nat.{ℕ, zero, suc, _+_, _-_, _*_, _^_, _≤_, _<_, zero-le}
-use native.Mathlib.Nat.{le-refl, le-trans, le-of-eq, le-of-lt, not-le-of-lt, mul-one, one-mul, zero-mul, mul-comm, mul-right-comm, mul-le-mul-right, le-of-mul-le-mul-right}
+use Prim.Native.Nat.{ℕ, _+_, _-_, _*_, _^_, _≤_, _<_, zero-le}
+use native.Mathlib.Nat.{le-refl, le-trans, le-of-eq, le-of-lt, not-le-of-lt, mul-one, one-mul, zero-mul, mul-right-comm, mul-le-mul-right, le-of-mul-le-mul-right}
 use native.Mathlib.Omega.{arith}
 use borrow.Author.Tests.{ltb-false}
-use lib.Dec.{T, leb, ltb, eqb, leb→le, le→leb, ltb→lt, eqb→eq, lit<, lit≤}
+use lib.Dec.{T, ltb, eqb, leb→le, le→leb, ltb→lt, eqb→eq, lit<}
 use lib.Pow.{pow-pos}
-use lib.IntN.{ℤ, pos, negsuc}
-use lib.Ieee.{Float, nan, inf, fin, Format, binary32, up, down, unlike, round, sum, add, sub, mul, le, lt, isNan}
-use lib.Ieee.Fits.{down-pos, and-l, and-r}
+use lib.IntN.{ℤ, pos}
+use lib.Ieee.{Float, nan, inf, fin, binary32, up, down, round, sum, add, mul, le, lt, isNan}
+use lib.Ieee.Fits.{down-pos, and-l}
 use lib.Ieee.Order.{round-mono}
 use lib.Ieee.Positive.{positive}
 use lib.Ieee.Positive as Positive

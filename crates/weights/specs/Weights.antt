@@ -1,7 +1,6 @@
 -- Lambda and the distortion's weights (document 01, module 5): f32 operations, each rounded once, left to right. Definitions only.
-use Prim.Native.Nat.{ℕ, max, min}
-use mathlib.Core.Bool.{Bool, false, cond}
-use lib.Dec.{eqb}
+use Prim.Native.Nat.{ℕ, max}
+use mathlib.Core.Bool.{false, cond}
 use lib.IntN.{pos, negsuc}
 use lib.Ieee.{Float, fin, binary32, ofInt, add, sub, mul, div, lt}
 

@@ -1,5 +1,5 @@
 -- `is_ideal` meets its contract. Assumes nothing.
-use mathlib.Core.Path.{_≡_, sym, ap}
+use mathlib.Core.Path.{sym, ap}
 use mathlib.Core.Bool.{Bool, false, _&&_}
 use lib.IntN.{pos}
 use lib.Ieee.{fin, le, neg, ofBits}

@@ -1,7 +1,7 @@
 -- `is_settled` meets its contract: each size is tested by two comparisons. Assumes nothing.
 use mathlib.Core.Path.{_≡_, refl, sym, ap, _∙_, subst}
 use mathlib.Core.Bool.{Bool, true, false, _&&_, _||_}
-use Prim.Native.Nat.{ℕ, _≤_, _^_}
+use Prim.Native.Nat.{_≤_, _^_}
 use native.Mathlib.Omega.{arith}
 use lib.Dec.{T, le→leb, lt→ltb}
 use lib.IntN.{ℤ, pos, negsuc, natAbs}

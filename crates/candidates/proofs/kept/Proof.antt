@@ -1,13 +1,12 @@
 -- `kept` meets its contract. Assumes nothing.
-use mathlib.Core.Path.{_≡_, refl, sym, ap, _∙_, subst}
+use mathlib.Core.Path.{_≡_, sym, ap, _∙_, subst}
 use mathlib.Core.Bool.{true, false}
-use mathlib.Core.List.{List, [], _∷_}
+use mathlib.Core.List.{[], _∷_}
 use lib.IntN.{ℤ, pos, negsuc, _+ℤ_, _-ℤ_}
 use lib.Signed.{ltZ}
 use mir.Syntax.{w32}
 use mir.Val.{ofZ, toZ}
 use Rattle.candidates.specs.Candidates.{keptOf, filled}
-use Rattle.candidates.specs.declared.Candidates.{Candidates}
 use Rattle.candidates.proofs.Levels.{current-size, zero-sfits, in-sfits, in-back, wider, same-bits, plus-sfits, minus-sfits, plus-back, minus-back}
 use Rattle.candidates.proofs.Lists.{kept-above, kept-below, kept-one}
 use Rattle.candidates.proofs.kept.Statement.{statement}

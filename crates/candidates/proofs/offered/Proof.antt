@@ -1,9 +1,8 @@
 -- `offered` meets its contract. Assumes nothing.
 use borrow.Author.Needs.{needs}
-use mathlib.Core.Path.{_≡_, refl, sym, ap, _∙_, subst}
+use mathlib.Core.Path.{_≡_, refl, sym, ap, _∙_}
 use mathlib.Core.Bool.{Bool, true, false, cond, _||_}
 use Prim.Native.Nat.{_+_}
-use native.Mathlib.Omega.{arith}
 use lib.ListN.{set}
 use lib.IntN.{ℤ, pos}
 use mir.Syntax.{w32}
@@ -12,7 +11,7 @@ use mir.ValLaws.{toZ-ofZ}
 use Rattle.candidates.specs.Candidates.{eqZ}
 use Rattle.candidates.specs.Steps.{offer}
 use Rattle.candidates.specs.declared.Candidates.{Candidates}
-use Rattle.candidates.proofs.Levels.{zero-sfits, in-sfits, same-bits, eq-eqZ, ne-eqZ}
+use Rattle.candidates.proofs.Levels.{zero-sfits, same-bits, eq-eqZ, ne-eqZ}
 use Rattle.candidates.proofs.offered.Statement.{statement}
 use Rattle.candidates.proofs.offered.Tie as tie
 

@@ -1,9 +1,8 @@
 -- `rdoq_candidates` meets its contract. Assumes nothing.
-use mathlib.Core.Path.{_≡_, refl, sym, ap, _∙_, subst}
+use mathlib.Core.Path.{sym, ap, _∙_, subst}
 use mathlib.Core.Bool.{Bool}
 use lib.Dec.{T}
 use lib.IntN.{ℤ, pos}
-use lib.Ieee.{Float}
 use Rattle.candidates.specs.Candidates.{isCurrent, filled, filler, candidatesOf, keptOf, restoredOf}
 use Rattle.candidates.proofs.Levels.{current-size, in-back, wider}
 use Rattle.candidates.proofs.rdoq_candidates.Statement.{statement}

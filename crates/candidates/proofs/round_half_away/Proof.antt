@@ -1,17 +1,16 @@
 -- `round_half_away` meets its contract, by the laws on the fields of a float's bits. Assumes nothing.
-use mathlib.Core.Path.{_≡_, refl, sym, ap, _∙_, subst}
-use mathlib.Core.Bool.{Bool, true, false}
+use mathlib.Core.Path.{_≡_, sym, ap, _∙_, subst}
+use mathlib.Core.Bool.{Bool}
 use Prim.Native.Nat.{ℕ, zero, suc, _-_, _^_, _<_}
 use lib.Dec.{lit<}
 use native.Mathlib.Omega.{arith}
 use borrow.Author.Tests.{le-leb, lt-leb}
 use lib.IntN.{ℤ, pos, negℤ, _-ℤ_}
 use lib.Ieee.{binary32, toBits}
-use lib.Signed.{mag}
 use mir.Syntax.{w32}
 use mir.Val.{SFits, toZ, ofZ}
 use mir.ValLaws.{toZ-pos, toZ-ofZ}
-use Rattle.candidates.specs.Nearest.{signed, nearestOf}
+use Rattle.candidates.specs.Nearest.{signed}
 use Rattle.candidates.proofs.Rounding.{exponentOf, roundedSize, ideal-number, bits-under, bits-small, bits-large, halves-small, rounded-small, minus-pos}
 use Rattle.candidates.proofs.round_half_away.Statement.{statement}
 use Rattle.candidates.proofs.round_half_away.Tie as tie

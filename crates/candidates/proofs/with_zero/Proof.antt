@@ -1,14 +1,13 @@
 -- `with_zero` meets its contract. Assumes nothing.
-use mathlib.Core.Path.{_≡_, refl, sym, ap, _∙_, subst}
+use mathlib.Core.Path.{_≡_, sym, ap, _∙_}
 use mathlib.Core.Bool.{Bool, cond}
 use mathlib.Core.List.{[], _∷_}
 use lib.Dec.{leb→le}
 use lib.IntN.{ℤ, pos, natAbs}
 use mir.Syntax.{w32}
 use mir.Val.{ofZ}
-use Rattle.candidates.specs.Candidates.{eqZ, filled}
+use Rattle.candidates.specs.Candidates.{filled}
 use Rattle.candidates.specs.Steps.{withZero}
-use Rattle.candidates.specs.declared.Candidates.{Candidates}
 use Rattle.candidates.proofs.Levels.{zero-sfits, in-sfits, in-back, wider, same-bits, eq-eqZ, ne-eqZ}
 use Rattle.candidates.proofs.with_zero.Statement.{statement}
 use Rattle.candidates.proofs.with_zero.Tie as tie

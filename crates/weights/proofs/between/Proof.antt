@@ -1,5 +1,5 @@
 -- `between` meets its contract. Assumes nothing.
-use mathlib.Core.Path.{_≡_, sym, ap}
+use mathlib.Core.Path.{sym, ap}
 use mathlib.Core.Bool.{Bool, _&&_}
 use lib.Ieee.{le}
 use Rattle.weights.proofs.between.Statement.{statement}

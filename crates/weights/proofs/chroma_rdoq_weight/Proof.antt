@@ -1,7 +1,6 @@
 -- `chroma_rdoq_weight` meets its contract. Assumes nothing.
-use mathlib.Core.Path.{_≡_, ap}
-use lib.Ieee.{Float, binary32, fin, add, mul, sub, ofBits}
-use lib.IntN.{pos}
+use mathlib.Core.Path.{ap}
+use lib.Ieee.{Float, binary32, add, mul, sub, ofBits}
 use Rattle.weights.specs.Weights.{chromaWeight, oneF, twoF}
 use Rattle.weights.proofs.chroma_rdoq_weight.Statement.{statement}
 use Rattle.weights.proofs.chroma_rdoq_weight.Tie as tie

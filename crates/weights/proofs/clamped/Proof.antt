@@ -1,5 +1,5 @@
 -- `clamped` meets its contract. Assumes nothing.
-use mathlib.Core.Path.{_≡_, sym, ap, _∙_}
+use mathlib.Core.Path.{sym, ap, _∙_}
 use mathlib.Core.Bool.{Bool, cond}
 use lib.Ieee.{lt}
 use Rattle.weights.specs.Weights.{clamp}

@@ -1,9 +1,9 @@
 -- `rdoq_distortion_weight` meets its contract. Assumes nothing.
-use mathlib.Core.Path.{_≡_, sym, ap, _∙_, subst}
+use mathlib.Core.Path.{ap, _∙_}
 use Prim.Native.Nat.{ℕ, max, _^_, _≤_}
 use native.Mathlib.Omega.{arith}
 use lib.Dec.{T, le→leb}
-use lib.IntN.{ℤ, pos}
+use lib.IntN.{pos}
 use lib.Ieee.{Float, binary32, add, sub, mul, div, inFloat, ofBits}
 use Rattle.weights.specs.Weights.{oneF, whole, distortionWeight}
 use Rattle.weights.proofs.rdoq_distortion_weight.Statement.{statement}

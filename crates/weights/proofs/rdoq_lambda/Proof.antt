@@ -1,5 +1,5 @@
 -- `rdoq_lambda` meets its contract. Assumes nothing.
-use mathlib.Core.Path.{_≡_, ap}
+use mathlib.Core.Path.{ap}
 use lib.Ieee.{Float, fin, binary32, mul, ofBits}
 use lib.IntN.{negsuc}
 use mathlib.Core.Bool.{false}

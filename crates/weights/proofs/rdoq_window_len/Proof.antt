@@ -1,11 +1,10 @@
 -- `rdoq_window_len` meets its contract. Assumes nothing.
-use mathlib.Core.Path.{_≡_, refl, sym, ap, _∙_}
+use mathlib.Core.Path.{sym, ap, _∙_}
 use mathlib.Core.Bool.{Bool, cond}
 use Prim.Native.Nat.{ℕ, _*_, min}
 use native.Mathlib.Omega.{arith}
-use borrow.Author.Tests.{eq-eqb, ne-eqb}
+use borrow.Author.Tests.{ne-eqb}
 use Rattle.weights.specs.Window.{windowOf}
-use Rattle.weights.specs.declared.Window.{Window}
 use Rattle.weights.proofs.rdoq_window_len.Statement.{statement}
 use Rattle.weights.proofs.rdoq_window_len.Tie as tie
 

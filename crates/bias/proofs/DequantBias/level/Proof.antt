@@ -1,11 +1,11 @@
 -- `DequantBias::level` meets its contract: by the level's three special values, and else by the standard's formula. Assumes nothing.
-use mathlib.Core.Path.{_≡_, refl, sym, ap, _∙_, subst}
+use mathlib.Core.Path.{sym, ap, _∙_, subst}
 use lib.Dec.{T}
 use lib.IntN.{ℤ, pos, negsuc}
-use lib.Ieee.{Float, binary32, inFloat, ofBits, ofInt, sub, div}
+use lib.Ieee.{binary32, inFloat, ofBits, ofInt, sub, div}
 use mir.Syntax.{w32}
 use mir.ValLaws.{toZ-ofZ}
-use Rattle.bias.specs.Level.{biased, corrected, levelOf}
+use Rattle.bias.specs.Level.{biased, corrected}
 use Rattle.bias.proofs.Cases.{level-sfits, level-exact, from-bits, far}
 use Rattle.bias.proofs.DequantBias.level.Statement.{statement}
 use Rattle.bias.proofs.DequantBias.level.Tie as tie

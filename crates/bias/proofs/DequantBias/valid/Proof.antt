@@ -1,5 +1,5 @@
 -- `DequantBias::valid` meets its contract: the tests are check 10's, one after the other. Assumes nothing.
-use mathlib.Core.Path.{_≡_, refl, sym, ap, _∙_}
+use mathlib.Core.Path.{_≡_}
 use mathlib.Core.Bool.{Bool, true, false, _&&_}
 use lib.Ieee.{ofBits}
 use Rattle.bias.specs.Level.{validBias, numerator0145}

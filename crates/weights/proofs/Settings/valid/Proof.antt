@@ -1,5 +1,5 @@
 -- `Settings::valid` meets its contract: the tests are check 10's, one after the other. Assumes nothing.
-use mathlib.Core.Path.{_≡_, refl, sym, ap, _∙_}
+use mathlib.Core.Path.{_≡_, sym, _∙_}
 use mathlib.Core.Bool.{Bool, true, false, not, _&&_}
 use borrow.Author.Tests.{not-true, not-false}
 use lib.Ieee.{ofBits}

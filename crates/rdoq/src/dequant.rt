@@ -1,0 +1,19 @@
+// The value that a decoder restores from a level.
+use crate::answer::Real;
+use bias::DequantBias;
+ghost use mathlib.Core.Path.{_≡_};
+ghost use Rattle.rdoq.specs.Dequant.{levelReply};
+
+const OUTSIDE: u32 = 17;
+
+// The biased level. Takes levels within ±32,768 and a record that passes check 10.
+pub fn level(bias: DequantBias, quant: i32) -> Real
+    ensures { λ r. ⌜ r ≡ levelReply bias quant ⌝ }
+{
+    if bias::is_level(quant) {
+        if bias.valid() {
+            return Real::Value(bias.level(quant));
+        }
+    }
+    Real::Refused(OUTSIDE)
+}

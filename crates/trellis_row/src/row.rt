@@ -1,0 +1,312 @@
+// A row of the trellis: the costs of all states of a position.
+use crate::chosen;
+use crate::chosen::Chosen;
+use crate::locals;
+use crate::locals::Locals;
+use candidates::Candidates;
+use steps::Place;
+ghost use mathlib.Core.Path.{_≡_};
+ghost use mathlib.Core.Bool.{true, false};
+ghost use Prim.Native.Nat.{ℕ, _+_, _-_, _*_, _<_, _≤_};
+ghost use lib.ListN.{length, getD, set};
+ghost use lib.IntN.{ℤ, pos};
+ghost use lib.Dec.{T};
+ghost use lib.Ieee.{Float, inf, lt};
+ghost use mathlib.Core.List.{List·Memᴰ};
+ghost use Rattle.costs.specs.Cost.{cost as isCost};
+ghost use Rattle.prices.specs.Checks.{bookRefusal};
+ghost use Rattle.least_cost.specs.Search.{hasZero};
+ghost use Rattle.prices.specs.Book.{bookOf};
+ghost use Rattle.steps.specs.Place.{localIn, localAt, contextAt, distortionAt};
+ghost use Rattle.trellis_row.specs.Locals.{listed, Usable, Each, Located, Held};
+ghost use Rattle.trellis_row.specs.Chosen.{ZeroAt, Settled};
+ghost use Rattle.trellis_row.specs.Row.{tailAt, nonzeroTail, zeroTail, RowIs, Elsewhere, Workable};
+
+// The counts that may be read of the next row: from `from` up to `upto`, the row's first count being `base`.
+pub struct Span {
+    pub base: usize,
+    pub from: usize,
+    pub upto: usize,
+}
+
+// The two states of a count.
+pub struct Pair {
+    pub first: Chosen,
+    pub second: Chosen,
+}
+
+fn tail_at(next: &[f32], span: Span, r: usize, prev: usize) -> f32
+    requires { ⌜ (span .base ≤ span .from) × ((span .from ≤ span .upto → 2 * (span .upto - span .base) + 1 < length (now next)) × (prev ≤ 1)) ⌝ }
+    ensures { λ t. ⌜ t ≡ tailAt (now (next .entry)) span r prev ⌝ }
+{
+    if r < span.from {
+        return costs::infinity();
+    }
+    if span.upto < r {
+        return costs::infinity();
+    }
+    let at = 2 * (r - span.base) + prev;
+    next[at]
+}
+
+fn nonzero_tail(next: &[f32], span: Span, r: usize) -> f32
+    requires { ⌜ (span .base ≤ span .from) × (span .from ≤ span .upto → 2 * (span .upto - span .base) + 1 < length (now next)) ⌝ }
+    ensures { λ t. ⌜ t ≡ nonzeroTail (now (next .entry)) span r ⌝ }
+{
+    if r < 1 {
+        return costs::infinity();
+    }
+    tail_at(next, span, r - 1, 1)
+}
+
+// `zero` is the index of 0 among the candidates, 255 where it is not listed.
+fn zero_tail(next: &[f32], span: Span, r: usize, zero: u8) -> f32
+    requires { ⌜ (span .base ≤ span .from) × (span .from ≤ span .upto → 2 * (span .upto - span .base) + 1 < length (now next)) ⌝ }
+    ensures { λ t. ⌜ ((zero ≡ 255 → t ≡ inf false) × ((zero ≡ 255 → ⊥) → t ≡ tailAt (now (next .entry)) span r 0)) ⌝ }
+{
+    if zero == 255 {
+        return costs::infinity();
+    }
+    tail_at(next, span, r, 0)
+}
+
+// The locals of a context: those at hand where the context is theirs.
+fn locals_for(
+    clusters: u32,
+    map: &[u8],
+    configs: &[u8],
+    symbols: &[f32],
+    ready: &[f32],
+    place: Place,
+    candidates: Candidates,
+    distortion: [f32; 5],
+    held: usize,
+    at_hand: Locals,
+    context: usize,
+) -> Locals
+    requires { ⌜ bookRefusal (bookOf clusters (now map) (now configs) (now symbols) (now ready)) ≡ 0 ⌝ }
+    requires { ⌜ context + 1 < 14850 ⌝ }
+    requires { ⌜ Usable candidates ⌝ }
+    requires { ⌜ Each (distortionAt place) (listed candidates) distortion ⌝ }
+    requires { ⌜ Held (bookOf clusters (now map) (now configs) (now symbols) (now ready)) place (listed candidates) held «at_hand» ⌝ }
+    ensures { λ r. ⌜ Located (localIn (bookOf clusters (now (map .entry)) (now (configs .entry)) (now (symbols .entry)) (now (ready .entry))) place context 0)
+        (localIn (bookOf clusters (now (map .entry)) (now (configs .entry)) (now (symbols .entry)) (now (ready .entry))) place context 1)
+        (listed candidates) r ⌝ }
+{
+    if context == held {
+        return at_hand;
+    }
+    locals::locals_in(
+        clusters,
+        map,
+        configs,
+        symbols,
+        ready,
+        place,
+        candidates,
+        distortion,
+        context,
+    )
+}
+
+// The two states of a count, what follows at hand.
+fn settle(
+    candidates: Candidates,
+    locals: Locals,
+    zero: u8,
+    nonzero_tail: f32,
+    zero_tail: f32,
+) -> Pair
+    requires { ⌜ Usable candidates ⌝ }
+    ensures { λ r. ⌜ ((g h : ℤ → Float) → Located g h (listed candidates) locals → ((q : ℤ) → List·Memᴰ q (listed candidates) → T (isCost (g q))) → ((q : ℤ) → List·Memᴰ q (listed candidates) → T (isCost (h q)))
+        → ZeroAt (listed candidates) zero → T (isCost «nonzero_tail») → T (isCost «zero_tail») → (hasZero (listed candidates) ≡ false → «zero_tail» ≡ inf false)
+        → (Settled g «nonzero_tail» «zero_tail» (listed candidates) (r .first)) × (Settled h «nonzero_tail» «zero_tail» (listed candidates) (r .second))) ⌝ }
+{
+    let first = locals.first;
+    let second = locals.second;
+    let least_first = locals.least_first;
+    let least_second = locals.least_second;
+    Pair {
+        first: chosen::choose(
+            candidates,
+            first,
+            least_first,
+            locals.zero_first,
+            zero,
+            nonzero_tail,
+            zero_tail,
+        ),
+        second: chosen::choose(
+            candidates,
+            second,
+            least_second,
+            locals.zero_second,
+            zero,
+            nonzero_tail,
+            zero_tail,
+        ),
+    }
+}
+
+// The locals at hand, and their context; a context of 14,850 stands for none.
+pub struct Cache {
+    pub context: usize,
+    pub locals: Locals,
+}
+
+fn write_pair(current: &mut [f32], choices: &mut [u8], i: usize, at: usize, pair: Pair)
+    requires { ⌜ (i + 1 < length (now current)) × (at + i + 1 < length (now choices)) ⌝ }
+    ensures { λ r. ⌜ (now (current .exit) ≡ set (set (now (current .entry)) i (pair .first .cost)) (i + 1) (pair .second .cost))
+        × (now (choices .exit) ≡ set (set (now (choices .entry)) (at + i) (pair .first .choice)) (at + i + 1) (pair .second .choice)) ⌝ }
+{
+    let first = pair.first;
+    let second = pair.second;
+    current[i] = first.cost;
+    current[i + 1] = second.cost;
+    choices[at + i] = first.choice;
+    choices[at + i + 1] = second.choice;
+}
+
+fn infinite(x: f32, z: f32) -> bool
+    ensures { λ r. ⌜ (r ≡ true → ((lt x (inf false) ≡ false) × (lt z (inf false) ≡ false))) ⌝ }
+{
+    let none = costs::infinity();
+    if x < none {
+        return false;
+    }
+    if z < none {
+        return false;
+    }
+    true
+}
+
+// Both states where nothing finite follows.
+fn unreachable() -> Pair
+    ensures { λ r. ⌜ (r .first .cost ≡ inf false) × (r .second .cost ≡ inf false) ⌝ }
+{
+    let none = Chosen {
+        cost: costs::infinity(),
+        choice: 255,
+    };
+    Pair {
+        first: none,
+        second: none,
+    }
+}
+
+// The two states of count `r`, written behind those of the counts from `least` on.
+fn row_state(
+    clusters: u32,
+    map: &[u8],
+    configs: &[u8],
+    symbols: &[f32],
+    ready: &[f32],
+    place: Place,
+    candidates: Candidates,
+    distortion: [f32; 5],
+    zero: u8,
+    next: &[f32],
+    span: Span,
+    current: &mut [f32],
+    choices: &mut [u8],
+    at: usize,
+    least: usize,
+    r: usize,
+    cache: Cache,
+) -> Cache
+    requires { ⌜ Workable (bookOf clusters (now map) (now configs) (now symbols) (now ready)) place candidates (now next) span r ⌝ }
+    requires { ⌜ Each (distortionAt place) (listed candidates) distortion ⌝ }
+    requires { ⌜ ZeroAt (listed candidates) zero ⌝ }
+    requires { ⌜ (hasZero (listed candidates) ≡ false → zero ≡ 255) ⌝ }
+    requires { ⌜ Held (bookOf clusters (now map) (now configs) (now symbols) (now ready)) place (listed candidates) (cache .context) (cache .locals) ⌝ }
+    requires { ⌜ (least ≤ r) × ((2 * (r - least) + 1 < length (now current)) × (at + 2 * (r - least) + 1 < length (now choices))) ⌝ }
+    ensures { λ s. ⌜ Held (bookOf clusters (now (map .entry)) (now (configs .entry)) (now (symbols .entry)) (now (ready .entry))) place (listed candidates) (s .context) (s .locals) ⌝ }
+    ensures { λ s. ⌜ length (now (current .exit)) ≡ length (now (current .entry)) ⌝ }
+    ensures { λ s. ⌜ Elsewhere (at + 2 * (r - least)) 2 (now (choices .entry)) (now (choices .exit)) ⌝ }
+    ensures { λ s. ⌜ (RowIs (bookOf clusters (now (map .entry)) (now (configs .entry)) (now (symbols .entry)) (now (ready .entry))) place (listed candidates) (now (next .entry)) span least at (2 * (r - least)) (now (current .entry)) (now (choices .entry))
+        → RowIs (bookOf clusters (now (map .entry)) (now (configs .entry)) (now (symbols .entry)) (now (ready .entry))) place (listed candidates) (now (next .entry)) span least at (2 * (r - least) + 2) (now (current .exit)) (now (choices .exit))) ⌝ }
+{
+    let x = nonzero_tail(next, span, r);
+    let z = zero_tail(next, span, r, zero);
+    let i = 2 * (r - least);
+    if infinite(x, z) {
+        write_pair(current, choices, i, at, unreachable());
+        return cache;
+    }
+    let context = place.context(r);
+    let locals = locals_for(
+        clusters,
+        map,
+        configs,
+        symbols,
+        ready,
+        place,
+        candidates,
+        distortion,
+        cache.context,
+        cache.locals,
+        context,
+    );
+    write_pair(
+        current,
+        choices,
+        i,
+        at,
+        settle(candidates, locals, zero, x, z),
+    );
+    Cache { context, locals }
+}
+
+// The states of the counts from `least` to `most`: their costs from the front of `current`, their choices from `at` on.
+pub fn fill_row(
+    clusters: u32,
+    map: &[u8],
+    configs: &[u8],
+    symbols: &[f32],
+    ready: &[f32],
+    place: Place,
+    candidates: Candidates,
+    next: &[f32],
+    span: Span,
+    current: &mut [f32],
+    choices: &mut [u8],
+    at: usize,
+    least: usize,
+    most: usize,
+)
+    requires { ⌜ Workable (bookOf clusters (now map) (now configs) (now symbols) (now ready)) place candidates (now next) span most ⌝ }
+    requires { ⌜ (least ≤ most) × ((2 * (most - least) + 1 < length (now current)) × (at + 2 * (most - least) + 1 < length (now choices))) ⌝ }
+    ensures { λ s. ⌜ length (now (current .exit)) ≡ length (now (current .entry)) ⌝ }
+    ensures { λ s. ⌜ Elsewhere at (2 * (most + 1 - least)) (now (choices .entry)) (now (choices .exit)) ⌝ }
+    ensures { λ s. ⌜ RowIs (bookOf clusters (now (map .entry)) (now (configs .entry)) (now (symbols .entry)) (now (ready .entry))) place (listed candidates) (now (next .entry)) span least at (2 * (most + 1 - least)) (now (current .exit)) (now (choices .exit)) ⌝ }
+{
+    let distortion = locals::distortions(place, candidates);
+    let zero = chosen::zero_index(candidates);
+    let mut cache = Cache {
+        context: 14850,
+        locals: Locals::none(),
+    };
+    let mut r = least;
+    while r <= most {
+        cache = row_state(
+            clusters,
+            map,
+            configs,
+            symbols,
+            ready,
+            place,
+            candidates,
+            distortion,
+            zero,
+            next,
+            span,
+            current,
+            choices,
+            at,
+            least,
+            r,
+            cache,
+        );
+        r += 1;
+    }
+}
