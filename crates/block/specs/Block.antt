@@ -25,6 +25,7 @@ pub record Block : Type 0 where
   pub inverse : List Float
   pub levels : List ℤ
 
+-- the arguments of a search as one block
 abbrev pub blockOf : Shape → Settings → DequantBias → Float → List ℕ → List Float → List Float → List ℤ → Block
 blockOf shape settings bias scale scan source inverse levels =
     record { shape = shape; settings = settings; bias = bias; scale = scale; scan = scan; source = source; inverse = inverse; levels = levels }
