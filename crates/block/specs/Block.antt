@@ -25,6 +25,11 @@ pub record Block : Type 0 where
   pub inverse : List Float
   pub levels : List ℤ
 
+-- the arguments of a search as one block
+abbrev pub blockOf : Shape → Settings → DequantBias → Float → List ℕ → List Float → List Float → List ℤ → Block
+blockOf shape settings bias scale scan source inverse levels =
+    record { shape = shape; settings = settings; bias = bias; scale = scale; scan = scan; source = source; inverse = inverse; levels = levels }
+
 -- c: the covered blocks
 unfoldable pub covered : Block → ℕ
 covered b = b .shape .cx * b .shape .cy
@@ -37,14 +42,14 @@ contextOf b = fineBlockContext (b .shape .channel) (b .shape .strategy) (b .shap
 unfoldable pub inputAt : Block → ℕ → ℤ
 inputAt b k = levelAt (b .scan) (b .levels) k
 
--- nonzero input levels among the n scan positions from k on
-unfoldable pub nonzerosAmong : Block → ℕ → ℕ → ℕ
-nonzerosAmong b k zero = 0
-nonzerosAmong b k (suc n) = nz (inputAt b k) + nonzerosAmong b (suc k) n
+-- nonzero levels among the n scan positions from k on
+unfoldable pub nonzerosAmong : List ℕ → List ℤ → ℕ → ℕ → ℕ
+nonzerosAmong scan levels k zero = 0
+nonzerosAmong scan levels k (suc n) = nz (levelAt scan levels k) + nonzerosAmong scan levels (suc k) n
 
 -- nonzero input levels from scan position k to the end of the block
 unfoldable pub inputRemaining : Block → ℕ → ℕ
-inputRemaining b k = nonzerosAmong b k (64 * covered b - k)
+inputRemaining b k = nonzerosAmong (b .scan) (b .levels) k (64 * covered b - k)
 
 -- The window (document 01) starts at scan position c. Its length and how many of its positions may be restored, the restoring prefix, are a record of
 -- their own: `windowOf c` is document 01's. A window position i is scan position c + i.

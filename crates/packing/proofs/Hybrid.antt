@@ -34,7 +34,7 @@ top-unique v n lo hi = go (leb (size v) n) refl
     go true e = absurd (lt-irrefl _ (lt-of-lt-of-le (size-lt v) (le-trans (pow-mono (leb-true _ _ e)) lo)))
     go false e = let h : n < size v = leb-false _ _ e in omega (arith, size-le v (suc n) hi)
 
-lt-of-pow-lt : (i j : ℕ) → 2 ^ i < 2 ^ j → i < j
+pub lt-of-pow-lt : (i j : ℕ) → 2 ^ i < 2 ^ j → i < j
 lt-of-pow-lt i j p = go (leb j i) refl
   where
     go : (b : Bool) → leb j i ≡ b → i < j

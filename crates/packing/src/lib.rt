@@ -30,7 +30,8 @@ pub fn pack_signed(level: i32) -> u32
     }
 }
 
-fn power(k: u32) -> u32
+// A power of two.
+pub fn power(k: u32) -> u32
     requires { ⌜ k < 32 ⌝ }
     ensures { λ r. ⌜ r ≡ 2 ^ k ⌝ }
 {
@@ -53,7 +54,8 @@ fn low_bits(x: u32, k: u32) -> u32
     x % power(k)
 }
 
-fn top_bit(v: u32) -> u32
+// The position of the top one bit.
+pub fn top_bit(v: u32) -> u32
     requires { ⌜ 0 < v ⌝ }
     ensures { λ r. ⌜ r ≡ topBit v ⌝ }
 {

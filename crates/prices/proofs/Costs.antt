@@ -23,7 +23,7 @@ use Rattle.packing.proofs.Hybrid.{symbol-fits, extra-bits-few}
 use Rattle.prices.specs.Book.{Book, at, clusterValid, clusterSymbol, clusterExtra, clusterPrice, price}
 use Rattle.prices.specs.Checks.{symbolPrice, bookRefusal}
 use Rattle.prices.proofs.Each.{both}
-use Rattle.prices.proofs.Passed.{Passed, passed}
+use Rattle.prices.proofs.Passed.{Sound, sound, five}
 
 -- ---- a symbol price
 
@@ -61,7 +61,7 @@ of-symbol (fin false m e) h =
     let small = both (le (fin false 0 (pos 0)) (fin false m e)) (le (fin false m e) (fin false 1 (pos 10)) || eq (fin false m e) (inf false)) h .1 in
     inl (le→leb _ _ (scaled (m * up e) (down e) (2 ^ 149) (le→cross m e 1 (pos 10) (or-false (le (fin false m e) (fin false 1 (pos 10))) small))))
 
-kinds : (x : Float) → symbolPrice x ≡ true → T (finite x) ⊎ (x ≡ inf false)
+pub kinds : (x : Float) → symbolPrice x ≡ true → T (finite x) ⊎ (x ≡ inf false)
 unfolding symbolPrice le lt eq
 kinds nan h = absurd (false≢true h)
 kinds (inf true) h = absurd (false≢true h)
@@ -119,38 +119,67 @@ module _ (n : ℕ) (few : n ≤ 17) where
       (finite-sum (fin false 0 (z .0)) (zero-capped (z .0)) tt)))
       (of-symbol x h)
 
-symbol-within : (configs : List ℕ) (k v : ℕ) → clusterValid configs k ≡ true → v ≤ 131071 → clusterSymbol configs k v < 128
+pub zero-extra : ofInt binary32 (pos 0) ≡ fin false 0 (pos 0)
+unfolding ofInt
+zero-extra = refl
+
+-- a symbol price plus no extra bits
+pub zero-sum-cost : (x : Float) → symbolPrice x ≡ true → T (cost (add binary32 x (fin false 0 (pos 0))))
+zero-sum-cost x h =
+    subst (λ (y : Float). T (cost (add binary32 x y))) zero-extra
+    (capped-cost binary32 1041 149 _ (sum-capped 0 (lit≤ {m = 0} {n = 17} tt) x h))
+
+pub symbol-within : (configs : List ℕ) (k v : ℕ) → clusterValid configs k ≡ true → v ≤ 131071 → clusterSymbol configs k v < 128
 unfolding clusterValid clusterSymbol
 symbol-within configs k v ok h = symbol-fits _ _ _ v ok h
 
-extra-few : (configs : List ℕ) (k v : ℕ) → v ≤ 131071 → clusterExtra configs k v ≤ 17
+pub extra-few : (configs : List ℕ) (k v : ℕ) → v ≤ 131071 → clusterExtra configs k v ≤ 16
 unfolding clusterExtra
-extra-few configs k v h = le-trans (extra-bits-few _ _ _ v h) (lit≤ {m = 16} {n = 17} tt)
+extra-few configs k v h = extra-bits-few _ _ _ v h
+
+-- the price of value v in cluster k, where the price of its symbol passes check 5
+module _ (configs : List ℕ) (symbols : List Float) (k v : ℕ) (hv : v ≤ 131071) (ok : symbolPrice (at symbols (128 * k + clusterSymbol configs k v)) ≡ true) where
+  pub cluster-capped : T (capped binary32 1041 149 (clusterPrice configs symbols k v))
+  unfolding clusterPrice
+  cluster-capped = sum-capped _ (le-trans (extra-few configs k v hv) (lit≤ {m = 16} {n = 17} tt)) _ ok
+
+  pub cluster-cost : T (cost (clusterPrice configs symbols k v))
+  cluster-cost = capped-cost binary32 1041 149 _ cluster-capped
+
+  pub cluster-finite : T (finite (at symbols (128 * k + clusterSymbol configs k v))) → T (finite (clusterPrice configs symbols k v))
+  unfolding clusterPrice
+  cluster-finite = sum-finite _ (le-trans (extra-few configs k v hv) (lit≤ {m = 16} {n = 17} tt)) _ ok
+
+-- the symbol of value v in cluster k of a book that passes checks 1 to 5
+pub symbol-passes : (b : Book) → Sound b → (k v : ℕ) → k < b .clusters → v ≤ 131071 → symbolPrice (at (b .symbols) (128 * k + clusterSymbol (b .configs) k v)) ≡ true
+symbol-passes b p k v hk hv = p .priced _ (omega (arith, symbol-within (b .configs) k v (p .valid k hk) hv))
+
+pub sound-cost : (b : Book) → Sound b → (k v : ℕ) → k < b .clusters → v ≤ 131071 → T (cost (clusterPrice (b .configs) (b .symbols) k v))
+sound-cost b p k v hk hv = cluster-cost (b .configs) (b .symbols) k v hv (symbol-passes b p k v hk hv)
 
 -- the price of the symbol of value v in a context
 unfoldable pub symbolPriceOf : Book → ℕ → ℕ → Float
 symbolPriceOf b context v = at (b .symbols) (128 * getD (b .map) context 0 + clusterSymbol (b .configs) (getD (b .map) context 0) v)
 
 module _ (b : Book) (ok : bookRefusal b ≡ 0) (context v : ℕ) (hc : context < 14850) (hv : v ≤ 131071) where
-  symbol-passes : symbolPrice (symbolPriceOf b context v) ≡ true
+  context-symbol : symbolPrice (symbolPriceOf b context v) ≡ true
   unfolding symbolPriceOf
-  symbol-passes =
-      let p = passed b ok in
-      let k = p .mapped context hc in
-      p .priced _ (omega (arith, k, symbol-within (b .configs) (getD (b .map) context 0) v (p .valid _ k) hv))
+  context-symbol =
+      let p = sound b (five b ok) in
+      symbol-passes b p (getD (b .map) context 0) v (p .mapped context hc) hv
 
   -- A price is +infinity, or at least 0 and at most 1,041.
   pub price-capped : T (capped binary32 1041 149 (price b context v))
-  unfolding price clusterPrice symbolPriceOf
-  price-capped = sum-capped _ (extra-few (b .configs) _ v hv) (symbolPriceOf b context v) symbol-passes
+  unfolding price symbolPriceOf
+  price-capped = cluster-capped (b .configs) (b .symbols) (getD (b .map) context 0) v hv context-symbol
 
   pub price-cost : T (cost (price b context v))
   price-cost = capped-cost binary32 1041 149 (price b context v) price-capped
 
   -- It is finite exactly where the price of the value's symbol is.
   pub price-finite : T (finite (symbolPriceOf b context v)) → T (finite (price b context v))
-  unfolding price clusterPrice symbolPriceOf
-  price-finite = sum-finite _ (extra-few (b .configs) _ v hv) (symbolPriceOf b context v) symbol-passes
+  unfolding price symbolPriceOf
+  price-finite = cluster-finite (b .configs) (b .symbols) (getD (b .map) context 0) v hv context-symbol
 
   pub price-infinite : symbolPriceOf b context v ≡ inf false → price b context v ≡ inf false
   unfolding price clusterPrice symbolPriceOf
@@ -159,4 +188,4 @@ module _ (b : Book) (ok : bookRefusal b ≡ 0) (context v : ℕ) (hc : context <
   pub infinite-symbol : price b context v ≡ inf false → symbolPriceOf b context v ≡ inf false
   infinite-symbol e =
       ⊎-elim (λ p. absurd (subst (λ (x : Float). T (finite x)) e (price-finite p))) (λ p. p)
-      (kinds (symbolPriceOf b context v) symbol-passes)
+      (kinds (symbolPriceOf b context v) context-symbol)

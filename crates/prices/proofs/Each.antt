@@ -1,12 +1,12 @@
 -- `each n p` says that p holds of each number below n.
 use Prim.Native.Nat.{ℕ, zero, suc, _+_, _<_, _≤_}
 use mathlib.Core.Path.{_≡_, refl, sym, ap, ap₂, _∙_, subst}
-use mathlib.Core.Bool.{Bool, true, false, _&&_, false≢true, and-false}
+use mathlib.Core.Bool.{Bool, true, false, _&&_, false≢true, and-true, and-assoc}
 use native.Mathlib.Omega.{arith}
-use native.Mathlib.Nat.{not-suc-le-zero}
+use native.Mathlib.Nat.{not-suc-le-zero, zero-add, add-zero, add-suc}
 use native.Mathlib.Numerals.{add-one}
 use lib.Dec.{eqb}
-use borrow.Author.Tests.{eqb-true, eqb-false}
+use borrow.Author.Tests.{eqb-true, eqb-false, ne-eqb}
 use Rattle.prices.specs.Checks.{each}
 
 pub both : (a b : Bool) → a && b ≡ true → (a ≡ true) × (b ≡ true)
@@ -54,3 +54,15 @@ pub each-same : (p q : ℕ → Bool) (n : ℕ) → ((i : ℕ) → i < n → p i 
 unfolding each
 each-same p q zero h = refl
 each-same p q (suc n) h = ap₂ _&&_ (each-same p q n (λ i k. h i (omega arith))) (h n (omega arith))
+
+-- a loop that counts failures: no failure so far is what `each` says
+pub each-count : (p : ℕ → Bool) (n bad f : ℕ) → each n p ≡ eqb bad 0 → p n ≡ eqb f 0 → each (n + 1) p ≡ eqb (bad + f) 0
+unfolding each
+each-count p n zero f e d = rw (add-one n, e, d, zero-add f)
+each-count p n (suc bad) f e d = rw (add-one n, e, ne-eqb (suc bad) 0 (λ q. omega arith)) (sym (ne-eqb (suc bad + f) 0 (λ q. omega arith)))
+
+-- a run of n after a
+pub each-run : (p : ℕ → Bool) (a n : ℕ) → each (a + n) p ≡ (each a p && each n (λ i. p (a + i)))
+unfolding each
+each-run p a zero = rw (add-zero a) (sym (and-true (each a p)))
+each-run p a (suc n) = rw add-suc (ap (λ (t : Bool). t && p (a + n)) (each-run p a n) ∙ and-assoc (each a p) (each n (λ i. p (a + i))) (p (a + n)))

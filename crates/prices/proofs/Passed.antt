@@ -9,12 +9,13 @@ use lib.ListN.{length, getD}
 use lib.Ieee.{Float, fits, binary32, toBits, ofBits}
 use lib.Ieee.Bits.{ofBits-toBits}
 use lib.Ieee.Fits.{add-fits}
-use borrow.Author.Tests.{eqb-true, eq-eqb, leb-true, le-leb, ltb-true, lt-ltb}
+use borrow.Author.Tests.{eqb-true, eqb-false, eq-eqb, leb-true, le-leb, ltb-true, lt-ltb}
 use Rattle.prices.specs.Book.{Book, at, clusterValid, clusterPrice, price}
-use Rattle.prices.specs.Checks.{each, symbolPrice, sameBits, check1, check2, check3, check4, check5, check6, readyRow, bookRefusal}
+use Rattle.prices.specs.Checks.{each, symbolPrice, sameBits, check1, check2, check3, check4, check5, check6, mapBelow, allPriced, rowKept, firstFive, fillRefusal, bookRefusal}
 use Rattle.prices.proofs.Each.{both, both-of, each-below, each-all}
 
-pub record Passed (b : Book) : Type 0 where
+-- checks 1 to 5
+pub record Sound (b : Book) : Type 0 where
   pub contexts : length (b .map) ≡ 14850
   pub some : 1 ≤ b .clusters
   pub few : b .clusters ≤ 256
@@ -24,6 +25,10 @@ pub record Passed (b : Book) : Type 0 where
   pub mapped : (i : ℕ) → i < 14850 → getD (b .map) i 0 < b .clusters
   pub valid : (k : ℕ) → k < b .clusters → clusterValid (b .configs) k ≡ true
   pub priced : (i : ℕ) → i < 128 * b .clusters → symbolPrice (at (b .symbols) i) ≡ true
+
+-- checks 1 to 6
+pub record Passed (b : Book) : Type 0 where
+  pub sound : Sound b
   pub kept : (k v : ℕ) → k < b .clusters → v < 256 → sameBits (at (b .ready) (256 * k + v)) (clusterPrice (b .configs) (b .symbols) k v) ≡ true
 
 pub parts1 : (b : Book) → check1 b ≡ true → (length (b .map) ≡ 14850) × (1 ≤ b .clusters) × (b .clusters ≤ 256)
@@ -46,15 +51,14 @@ through : (t : Bool) (x n : ℕ) → cond t x (suc n) ≡ 0 → (t ≡ true) × 
 through true x n e = (refl, e)
 through false x n e = absurd (omega arith)
 
-pub passed : (b : Book) → bookRefusal b ≡ 0 → Passed b
-unfolding bookRefusal check3 check4 check5 check6 readyRow
-passed b e =
+pub sound : (b : Book) → fillRefusal b ≡ 0 → Sound b
+unfolding fillRefusal firstFive check3 mapBelow check4 check5 allPriced
+sound b e =
     let t1 = through (check1 b) _ 0 e in
     let t2 = through (check2 b) _ 1 (t1 .1) in
     let t3 = through (check3 b) _ 2 (t2 .1) in
     let t4 = through (check4 b) _ 3 (t3 .1) in
     let t5 = through (check5 b) _ 4 (t4 .1) in
-    let t6 = through (check6 b) _ 5 (t5 .1) in
     let p1 = parts1 b (t1 .0) in
     let p2 = parts2 b (t2 .0) in
     record {
@@ -70,7 +74,64 @@ passed b e =
           (each-below (λ j. ltb (getD (b .map) j 0) (b .clusters)) (length (b .map)) (t3 .0) i (omega (arith, p1 .0)));
       valid = each-below (clusterValid (b .configs)) (b .clusters) (t4 .0);
       priced = λ i h. each-below (λ j. symbolPrice (at (b .symbols) j)) (length (b .symbols)) (t5 .0) i (omega (arith, p2 .1));
-      kept = λ k v h i. each-below (λ w. sameBits (at (b .ready) (256 * k + w)) (clusterPrice (b .configs) (b .symbols) k w)) 256 (each-below (readyRow b) (b .clusters) (t6 .0) k h) v i;
+    }
+
+-- Checks 1 to 6 are checks 1 to 5 and then the sixth.
+chain : (c1 c2 c3 c4 c5 : Bool) → ℕ → ℕ
+chain c1 c2 c3 c4 c5 later = cond c1 (cond c2 (cond c3 (cond c4 (cond c5 later 5) 4) 3) 2) 1
+
+chain-later : (c1 c2 c3 c4 c5 : Bool) (n : ℕ) → chain c1 c2 c3 c4 c5 0 ≡ 0 → chain c1 c2 c3 c4 c5 n ≡ n
+unfolding chain
+chain-later true true true true true n e = refl
+chain-later true true true true false n e = absurd (omega arith)
+chain-later true true true false c5 n e = absurd (omega arith)
+chain-later true true false c4 c5 n e = absurd (omega arith)
+chain-later true false c3 c4 c5 n e = absurd (omega arith)
+chain-later false c2 c3 c4 c5 n e = absurd (omega arith)
+
+chain-first : (c1 c2 c3 c4 c5 : Bool) (n : ℕ) → (chain c1 c2 c3 c4 c5 0 ≡ 0 → ⊥) → chain c1 c2 c3 c4 c5 n ≡ chain c1 c2 c3 c4 c5 0
+unfolding chain
+chain-first true true true true true n ne = absurd (ne refl)
+chain-first true true true true false n ne = refl
+chain-first true true true false c5 n ne = refl
+chain-first true true false c4 c5 n ne = refl
+chain-first true false c3 c4 c5 n ne = refl
+chain-first false c2 c3 c4 c5 n ne = refl
+
+pub five-later : (b : Book) (n : ℕ) → fillRefusal b ≡ 0 → firstFive b n ≡ n
+unfolding fillRefusal firstFive chain
+five-later b n e = chain-later (check1 b) (check2 b) (check3 b) (check4 b) (check5 b) n e
+
+pub five-first : (b : Book) (n : ℕ) → (fillRefusal b ≡ 0 → ⊥) → firstFive b n ≡ fillRefusal b
+unfolding fillRefusal firstFive chain
+five-first b n ne = chain-first (check1 b) (check2 b) (check3 b) (check4 b) (check5 b) n ne
+
+pub six : (b : Book) → fillRefusal b ≡ 0 → bookRefusal b ≡ cond (check6 b) 0 6
+unfolding bookRefusal
+six b = five-later b (cond (check6 b) 0 6)
+
+pub first-five : (b : Book) → (fillRefusal b ≡ 0 → ⊥) → bookRefusal b ≡ fillRefusal b
+unfolding bookRefusal
+first-five b = five-first b (cond (check6 b) 0 6)
+
+-- the first five pass where all six do
+pub five : (b : Book) → bookRefusal b ≡ 0 → fillRefusal b ≡ 0
+five b e = go (eqb (fillRefusal b) 0) refl
+  where
+    go : (t : Bool) → eqb (fillRefusal b) 0 ≡ t → fillRefusal b ≡ 0
+    go true d = eqb-true (fillRefusal b) 0 d
+    go false d = sym (first-five b (eqb-false (fillRefusal b) 0 d)) ∙ e
+
+pub passed : (b : Book) → bookRefusal b ≡ 0 → Passed b
+unfolding check6 rowKept
+passed b e =
+    let rows = through (check6 b) 0 5 (sym (six b (five b e)) ∙ e) .0 in
+    record {
+      sound = sound b (five b e);
+      kept =
+          λ k v h i.
+          each-below (λ w. sameBits (at (b .ready) (256 * k + w)) (clusterPrice (b .configs) (b .symbols) k w)) 256
+          (each-below (rowKept (b .configs) (b .symbols) (b .ready)) (b .clusters) rows k h) v i;
     }
 
 -- two values of the format with the same bits are one

@@ -27,29 +27,39 @@ check1 b = eqb (length (b .map)) 14850 && leb 1 (b .clusters) && leb (b .cluster
 unfoldable pub check2 : Book → Bool
 check2 b = eqb (length (b .configs)) (3 * b .clusters) && eqb (length (b .symbols)) (128 * b .clusters) && eqb (length (b .ready)) (256 * b .clusters)
 
+-- each entry of the map is below n
+unfoldable pub mapBelow : ℕ → List ℕ → Bool
+mapBelow n map = each (length map) (λ i. ltb (getD map i 0) n)
+
 unfoldable pub check3 : Book → Bool
-check3 b = each (length (b .map)) (λ i. ltb (getD (b .map) i 0) (b .clusters))
+check3 b = mapBelow (b .clusters) (b .map)
 
 unfoldable pub check4 : Book → Bool
 check4 b = each (b .clusters) (clusterValid (b .configs))
 
-unfoldable pub check5 : Book → Bool
-check5 b = each (length (b .symbols)) (λ i. symbolPrice (at (b .symbols) i))
+-- each of them is a symbol price
+unfoldable pub allPriced : List Float → Bool
+allPriced symbols = each (length symbols) (λ i. symbolPrice (at symbols i))
 
--- the ready prices of cluster k
-unfoldable pub readyRow : Book → ℕ → Bool
-readyRow b k = each 256 (λ v. sameBits (at (b .ready) (256 * k + v)) (clusterPrice (b .configs) (b .symbols) k v))
+unfoldable pub check5 : Book → Bool
+check5 b = allPriced (b .symbols)
+
+-- the 256 ready prices of cluster k
+unfoldable pub rowKept : List ℕ → List Float → List Float → ℕ → Bool
+rowKept configs symbols ready k = each 256 (λ v. sameBits (at ready (256 * k + v)) (clusterPrice configs symbols k v))
 
 unfoldable pub check6 : Book → Bool
-check6 b = each (b .clusters) (readyRow b)
+check6 b = each (b .clusters) (rowKept (b .configs) (b .symbols) (b .ready))
 
--- The number of the first check that a book fails, or 0.
+-- The number of the first check among 1 to 5 that a book fails, else what comes after them.
+unfoldable pub firstFive : Book → ℕ → ℕ
+firstFive b later =
+    cond (check1 b) (cond (check2 b) (cond (check3 b) (cond (check4 b) (cond (check5 b) later 5) 4) 3) 2) 1
+
+-- What filling the ready prices refuses: checks 1 to 5; 0 where none fails.
+unfoldable pub fillRefusal : Book → ℕ
+fillRefusal b = firstFive b 0
+
+-- What a search refuses of a book: checks 1 to 6.
 unfoldable pub bookRefusal : Book → ℕ
-bookRefusal b =
-    cond (check1 b)
-    (cond (check2 b)
-    (cond (check3 b)
-    (cond (check4 b)
-    (cond (check5 b)
-    (cond (check6 b) 0 6)
-    5) 4) 3) 2) 1
+bookRefusal b = firstFive b (cond (check6 b) 0 6)

@@ -1,11 +1,12 @@
 // The price of a value in a context, from a book that passed its checks (document 01, module 4).
 use packing::HybridUintConfig;
+use packing::Split;
 use packing::uint_encode_with_config;
 ghost use mathlib.Core.Path.{_≡_};
 ghost use mathlib.Core.Bool.{true};
 ghost use Prim.Native.Nat.{_≤_, _<_, _+_, _*_};
 ghost use lib.ListN.{length, getD};
-ghost use Rattle.prices.specs.Book.{bookOf, price, clusterPrice, clusterValid};
+ghost use Rattle.prices.specs.Book.{bookOf, price, clusterPrice, clusterValid, clusterSymbol, clusterExtra};
 ghost use Rattle.prices.specs.Checks.{bookRefusal};
 
 // The prices of a value in two contexts.
@@ -29,6 +30,17 @@ pub fn config_of(configs: &[u8], cluster: usize) -> HybridUintConfig
     }
 }
 
+// The symbol and the extra bits of a value in a cluster.
+pub fn cluster_split(configs: &[u8], cluster: usize, value: u32) -> Split
+    requires { ⌜ 3 * cluster + 2 < length (now configs) ⌝ }
+    requires { ⌜ clusterValid (now configs) cluster ≡ true ⌝ }
+    requires { ⌜ value ≤ 131071 ⌝ }
+    ensures { λ r. ⌜ r .symbol ≡ clusterSymbol (now (configs .entry)) cluster value ⌝ }
+    ensures { λ r. ⌜ r .«extra_bits» ≡ clusterExtra (now (configs .entry)) cluster value ⌝ }
+{
+    uint_encode_with_config(value, config_of(configs, cluster))
+}
+
 // The price of a value in a cluster, by its split.
 pub fn cluster_price(configs: &[u8], symbols: &[f32], cluster: usize, value: u32) -> f32
     requires { ⌜ 3 * cluster + 2 < length (now configs) ⌝ }
@@ -37,7 +49,7 @@ pub fn cluster_price(configs: &[u8], symbols: &[f32], cluster: usize, value: u32
     requires { ⌜ value ≤ 131071 ⌝ }
     ensures { λ r. ⌜ r ≡ clusterPrice (now (configs .entry)) (now (symbols .entry)) cluster value ⌝ }
 {
-    let split = uint_encode_with_config(value, config_of(configs, cluster));
+    let split = cluster_split(configs, cluster, value);
     let at = 128 * cluster + split.symbol as usize;
     symbols[at] + split.extra_bits as f32
 }

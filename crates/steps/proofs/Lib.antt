@@ -1,1 +1,5 @@
 pub mod Zero
+pub mod Spots
+pub mod Counting
+pub mod Tails
+pub mod Local

@@ -1,4 +1,7 @@
 // The steps that the searches share.
+pub mod reading;
+pub mod tokens;
+
 use bias::DequantBias;
 use prices::Pair;
 ghost use mathlib.Core.Path.{_≡_};

@@ -65,7 +65,7 @@ stands-below levels i o = go (ltb i (length levels)) refl
         let zero : nz (getD levels i (pos 0)) ≡ 0 = ap nz (List·getD-eq-default levels (pos 0) {n = i} (ltb-false i (length levels) t)) in
         absurd (omega arith)
 
-zero-listed : (levels : List ℤ) → hasZero levels ≡ true → Mem (pos 0) levels
+pub zero-listed : (levels : List ℤ) → hasZero levels ≡ true → Mem (pos 0) levels
 unfolding hasZero
 zero-listed [] e = absurd (true≢false (sym e))
 zero-listed (q ∷ qs) e = go (eqb (nz q) 0) refl (λ h. zero-listed qs h) e

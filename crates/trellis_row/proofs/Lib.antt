@@ -4,3 +4,4 @@ pub mod Scanning
 pub mod Noting
 pub mod Tying
 pub mod Choosing
+pub mod Rows

@@ -8,7 +8,7 @@ use lib.ListN.{getD, set, take, length}
 use lib.Ieee.{Float, nan, inf, lt}
 use lib.Dec.{T, eqb}
 use Rattle.bias.specs.Level.{isLevel}
-use Rattle.candidates.specs.declared.Candidates.{Candidates}
+pub use Rattle.steps.specs.Plan.{listed, Usable}
 use Rattle.least_cost.specs.Position.{nz}
 use Rattle.least_cost.specs.Search.{least, holder, nonzeros, hasZero}
 use Rattle.least_cost.specs.Factored.{runnerUp}
@@ -17,16 +17,6 @@ use Rattle.steps.specs.Place.{localIn}
 use Rattle.steps.specs.declared.Place.{Place}
 use Rattle.trellis_row.specs.declared.locals.Least.{Least}
 use Rattle.trellis_row.specs.declared.locals.Locals.{Locals}
-
--- the levels that are listed
-abbrev pub listed : Candidates → List ℤ
-listed c = take (c .count) (c .levels)
-
--- at most five candidates, each within the levels that have a bias
-pub record Usable (c : Candidates) : Type 0 where
-  pub few : c .count ≤ 5
-  pub five : length (c .levels) ≡ 5
-  pub levels : (j : ℕ) → j < c .count → T (isLevel (getD (c .levels) j (pos 0)))
 
 -- before any cost was considered
 unfoldable pub nothing : Least

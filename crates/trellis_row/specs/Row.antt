@@ -42,11 +42,15 @@ rowLevel book x levels next s least i =
     let r = least + i / 2 in
     stateLevel (localAt book x r (i % 2)) (nonzeroTail next s r) (zeroTail levels next s r) levels
 
--- n entries of a row are there: the costs, and from `at` on the choices, each an index where its cost is finite
+-- v is the cost of the row's entry i, and where that is finite the choice is the index of its level
+pub record EntryIs (book : Book) (x : Place) (levels : List ℤ) (next : List Float) (s : Span) (least i : ℕ) (v : Float) (choice : ℕ) : Type 0 where
+  pub cost : v ≡ rowCost book x levels next s least i
+  pub level : T (finite v) → getD levels choice (pos 0) ≡ rowLevel book x levels next s least i
+  pub below : T (finite v) → choice < length levels
+
+-- the first n entries of a row are there: the costs, and from `at` on the choices
 pub record RowIs (book : Book) (x : Place) (levels : List ℤ) (next : List Float) (s : Span) (least at n : ℕ) (row : List Float) (choices : List ℕ) : Type 0 where
-  pub cost : (i : ℕ) → i < n → getD row i nan ≡ rowCost book x levels next s least i
-  pub level : (i : ℕ) → i < n → T (finite (rowCost book x levels next s least i)) → getD levels (getD choices (at + i) 0) (pos 0) ≡ rowLevel book x levels next s least i
-  pub below : (i : ℕ) → i < n → T (finite (rowCost book x levels next s least i)) → getD choices (at + i) 0 < length levels
+  pub entry : (i : ℕ) → i < n → EntryIs book x levels next s least i (getD row i nan) (getD choices (at + i) 0)
 
 -- outside the n bytes from `at` on nothing changed
 pub record Elsewhere (at n : ℕ) (before after : List ℕ) : Type 0 where

@@ -53,7 +53,7 @@ impl Least {
 }
 
 impl Locals {
-    fn none() -> Locals
+    pub(crate) fn none() -> Locals
         ensures { λ r. ⌜ Empty r ⌝ }
     {
         Locals {

@@ -8,10 +8,10 @@ use steps::Place;
 ghost use mathlib.Core.Path.{_≡_};
 ghost use mathlib.Core.Bool.{true, false};
 ghost use Prim.Native.Nat.{ℕ, _+_, _-_, _*_, _<_, _≤_};
-ghost use lib.ListN.{length, getD};
+ghost use lib.ListN.{length, getD, set};
 ghost use lib.IntN.{ℤ, pos};
 ghost use lib.Dec.{T};
-ghost use lib.Ieee.{Float, inf};
+ghost use lib.Ieee.{Float, inf, lt};
 ghost use mathlib.Core.List.{List·Memᴰ};
 ghost use Rattle.costs.specs.Cost.{cost as isCost};
 ghost use Rattle.prices.specs.Checks.{bookRefusal};
@@ -145,5 +145,168 @@ fn settle(
             nonzero_tail,
             zero_tail,
         ),
+    }
+}
+
+// The locals at hand, and their context; a context of 14,850 stands for none.
+pub struct Cache {
+    pub context: usize,
+    pub locals: Locals,
+}
+
+fn write_pair(current: &mut [f32], choices: &mut [u8], i: usize, at: usize, pair: Pair)
+    requires { ⌜ (i + 1 < length (now current)) × (at + i + 1 < length (now choices)) ⌝ }
+    ensures { λ r. ⌜ (now (current .exit) ≡ set (set (now (current .entry)) i (pair .first .cost)) (i + 1) (pair .second .cost))
+        × (now (choices .exit) ≡ set (set (now (choices .entry)) (at + i) (pair .first .choice)) (at + i + 1) (pair .second .choice)) ⌝ }
+{
+    let first = pair.first;
+    let second = pair.second;
+    current[i] = first.cost;
+    current[i + 1] = second.cost;
+    choices[at + i] = first.choice;
+    choices[at + i + 1] = second.choice;
+}
+
+fn infinite(x: f32, z: f32) -> bool
+    ensures { λ r. ⌜ (r ≡ true → ((lt x (inf false) ≡ false) × (lt z (inf false) ≡ false))) ⌝ }
+{
+    let none = costs::infinity();
+    if x < none {
+        return false;
+    }
+    if z < none {
+        return false;
+    }
+    true
+}
+
+// Both states where nothing finite follows.
+fn unreachable() -> Pair
+    ensures { λ r. ⌜ (r .first .cost ≡ inf false) × (r .second .cost ≡ inf false) ⌝ }
+{
+    let none = Chosen {
+        cost: costs::infinity(),
+        choice: 255,
+    };
+    Pair {
+        first: none,
+        second: none,
+    }
+}
+
+// The two states of count `r`, written behind those of the counts from `least` on.
+fn row_state(
+    clusters: u32,
+    map: &[u8],
+    configs: &[u8],
+    symbols: &[f32],
+    ready: &[f32],
+    place: Place,
+    candidates: Candidates,
+    distortion: [f32; 5],
+    zero: u8,
+    next: &[f32],
+    span: Span,
+    current: &mut [f32],
+    choices: &mut [u8],
+    at: usize,
+    least: usize,
+    r: usize,
+    cache: Cache,
+) -> Cache
+    requires { ⌜ Workable (bookOf clusters (now map) (now configs) (now symbols) (now ready)) place candidates (now next) span r ⌝ }
+    requires { ⌜ Each (distortionAt place) (listed candidates) distortion ⌝ }
+    requires { ⌜ ZeroAt (listed candidates) zero ⌝ }
+    requires { ⌜ (hasZero (listed candidates) ≡ false → zero ≡ 255) ⌝ }
+    requires { ⌜ Held (bookOf clusters (now map) (now configs) (now symbols) (now ready)) place (listed candidates) (cache .context) (cache .locals) ⌝ }
+    requires { ⌜ (least ≤ r) × ((2 * (r - least) + 1 < length (now current)) × (at + 2 * (r - least) + 1 < length (now choices))) ⌝ }
+    ensures { λ s. ⌜ Held (bookOf clusters (now (map .entry)) (now (configs .entry)) (now (symbols .entry)) (now (ready .entry))) place (listed candidates) (s .context) (s .locals) ⌝ }
+    ensures { λ s. ⌜ length (now (current .exit)) ≡ length (now (current .entry)) ⌝ }
+    ensures { λ s. ⌜ Elsewhere (at + 2 * (r - least)) 2 (now (choices .entry)) (now (choices .exit)) ⌝ }
+    ensures { λ s. ⌜ (RowIs (bookOf clusters (now (map .entry)) (now (configs .entry)) (now (symbols .entry)) (now (ready .entry))) place (listed candidates) (now (next .entry)) span least at (2 * (r - least)) (now (current .entry)) (now (choices .entry))
+        → RowIs (bookOf clusters (now (map .entry)) (now (configs .entry)) (now (symbols .entry)) (now (ready .entry))) place (listed candidates) (now (next .entry)) span least at (2 * (r - least) + 2) (now (current .exit)) (now (choices .exit))) ⌝ }
+{
+    let x = nonzero_tail(next, span, r);
+    let z = zero_tail(next, span, r, zero);
+    let i = 2 * (r - least);
+    if infinite(x, z) {
+        write_pair(current, choices, i, at, unreachable());
+        return cache;
+    }
+    let context = place.context(r);
+    let locals = locals_for(
+        clusters,
+        map,
+        configs,
+        symbols,
+        ready,
+        place,
+        candidates,
+        distortion,
+        cache.context,
+        cache.locals,
+        context,
+    );
+    write_pair(
+        current,
+        choices,
+        i,
+        at,
+        settle(candidates, locals, zero, x, z),
+    );
+    Cache { context, locals }
+}
+
+// The states of the counts from `least` to `most`: their costs from the front of `current`, their choices from `at` on.
+pub fn fill_row(
+    clusters: u32,
+    map: &[u8],
+    configs: &[u8],
+    symbols: &[f32],
+    ready: &[f32],
+    place: Place,
+    candidates: Candidates,
+    next: &[f32],
+    span: Span,
+    current: &mut [f32],
+    choices: &mut [u8],
+    at: usize,
+    least: usize,
+    most: usize,
+)
+    requires { ⌜ Workable (bookOf clusters (now map) (now configs) (now symbols) (now ready)) place candidates (now next) span most ⌝ }
+    requires { ⌜ (least ≤ most) × ((2 * (most - least) + 1 < length (now current)) × (at + 2 * (most - least) + 1 < length (now choices))) ⌝ }
+    ensures { λ s. ⌜ length (now (current .exit)) ≡ length (now (current .entry)) ⌝ }
+    ensures { λ s. ⌜ Elsewhere at (2 * (most + 1 - least)) (now (choices .entry)) (now (choices .exit)) ⌝ }
+    ensures { λ s. ⌜ RowIs (bookOf clusters (now (map .entry)) (now (configs .entry)) (now (symbols .entry)) (now (ready .entry))) place (listed candidates) (now (next .entry)) span least at (2 * (most + 1 - least)) (now (current .exit)) (now (choices .exit)) ⌝ }
+{
+    let distortion = locals::distortions(place, candidates);
+    let zero = chosen::zero_index(candidates);
+    let mut cache = Cache {
+        context: 14850,
+        locals: Locals::none(),
+    };
+    let mut r = least;
+    while r <= most {
+        cache = row_state(
+            clusters,
+            map,
+            configs,
+            symbols,
+            ready,
+            place,
+            candidates,
+            distortion,
+            zero,
+            next,
+            span,
+            current,
+            choices,
+            at,
+            least,
+            r,
+            cache,
+        );
+        r += 1;
     }
 }

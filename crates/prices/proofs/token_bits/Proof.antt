@@ -14,37 +14,37 @@ known c = passed _ (c .pre .0)
 
 -- the cluster of the context
 within : (c : tie.Start) → getD (c .args .map .now) (c .args .context) 0 < c .args .clusters
-within c = known c .mapped (c .args .context) (c .pre .1 .0)
+within c = known c .sound .mapped (c .args .context) (c .pre .1 .0)
 
 shared-slice-read-cluster : tie.Need-shared-slice-read-cluster
 shared-slice-read-cluster c =
     let start = c .before .before .before .before .before in
-    omega (arith, known start .contexts, start .pre .1 .0)
+    omega (arith, known start .sound .contexts, start .pre .1 .0)
 
 cast-cluster : tie.Need-cast-cluster
 cast-cluster c =
     let start = c .before .before .before .before .before in
-    omega (arith, known start .few, within start)
+    omega (arith, known start .sound .few, within start)
 
 mul-result : tie.Need-mul-result
 mul-result c =
     let start = c .before .before .before .before .before .before in
-    omega (arith, known start .few, within start)
+    omega (arith, known start .sound .few, within start)
 
 add-result : tie.Need-add-result
 add-result c =
     let start = c .before .before .before .before .before .before in
-    omega (arith, known start .few, within start)
+    omega (arith, known start .sound .few, within start)
 
 mul-result-2 : tie.Need-mul-result-2
 mul-result-2 c =
     let start = c .before .before .before .before .before .before in
-    omega (arith, known start .few, within start)
+    omega (arith, known start .sound .few, within start)
 
 shared-slice-read-result : tie.Need-shared-slice-read-result
 shared-slice-read-result c =
     let start = c .before .before .before .before .before .before .before in
-    omega (arith, known start .ready-long, within start, c .before .if1 .taken)
+    omega (arith, known start .sound .ready-long, within start, c .before .if1 .taken)
 
 returns : tie.Need-returns
 unfolding price
@@ -59,7 +59,7 @@ returns c =
 cluster-price-requires : tie.Need-cluster-price-requires
 cluster-price-requires c κs =
     let start = c .before .before .before .before .before .before in
-    (omega (arith, known start .configs-long, within start), (omega (arith, known start .symbols-long, within start), (known start .valid _ (within start), start .pre .1 .1)))
+    (omega (arith, known start .sound .configs-long, within start), (omega (arith, known start .sound .symbols-long, within start), (known start .sound .valid _ (within start), start .pre .1 .1)))
 
 returns-2 : tie.Need-returns-2
 unfolding price

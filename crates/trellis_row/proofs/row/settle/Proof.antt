@@ -10,13 +10,14 @@ choose-requires-2 c κs = search needs
 
 returns : tie.Need-returns
 returns c =
-    λ g h located G H at X Z none.
-    (c .before .choose .ensures g
-    (record { each = located .first; first = located .least-first; none = located .zero-first; costs = G })
-    at X Z none,
-    c .choose2 .ensures h
-    (record { each = located .second; first = located .least-second; none = located .zero-second; costs = H })
-    at X Z none)
+    λ g h located G H at X Z none. (
+      c .before .choose .ensures g
+          (record { each = located .first; first = located .least-first; none = located .zero-first; costs = G })
+          at X Z none,
+      c .choose2 .ensures h
+          (record { each = located .second; first = located .least-second; none = located .zero-second; costs = H })
+          at X Z none,
+    )
 
 pub settle-spec : {M : Type 1} → statement M
 settle-spec = tie.close (tie.spec choose-requires choose-requires-2 returns)

@@ -1,0 +1,238 @@
+-- What checks 7 to 13 leave a search with. Assumes nothing.
+use mathlib.Core.Path.{_≡_, refl, sym, _∙_, subst}
+use mathlib.Core.Bool.{Bool, true, false, cond, _&&_}
+use mathlib.Core.Logic.{_⊎_, inl, inr, ⊎-elim}
+use Prim.Native.Nat.{ℕ, zero, suc, _+_, _-_, _*_, _^_, _≤_, _<_, min}
+use native.Mathlib.Nat.{le-trans, le-min, min-le-left, min-le-right}
+use native.Mathlib.Omega.{arith}
+use borrow.Author.Tests.{eqb-true, eq-eqb, ne-eqb, leb-true}
+use lib.Dec.{T, eqb, leb, lit≤}
+use lib.ListN.{length}
+use Rattle.ac_context.specs.Contexts.{isPowerBelow, Covered}
+use Rattle.ac_context.proofs.Bounds.{covered-some, covered-most}
+use Rattle.bias.specs.Level.{validBias}
+use Rattle.block.specs.Block.{Block, covered, inputAt, ideal}
+use Rattle.block.specs.Checks.{check7, check8, check9, check10, check11, check12, check13, blockRefusal, searchRefusal}
+use Rattle.candidates.specs.Candidates.{isCurrent}
+use Rattle.candidates.specs.Nearest.{isIdeal}
+use Rattle.laws.proofs.Tests.{and-left, and-right}
+use Rattle.prices.specs.Book.{Book}
+use Rattle.prices.specs.Checks.{each, bookRefusal}
+use Rattle.prices.proofs.Each.{each-below}
+use Rattle.scan.specs.Scan.{eachOnce}
+use Rattle.scan.proofs.Once.{perm-of}
+use Rattle.weights.specs.Settings.{validSettings}
+use Rattle.weights.specs.Window.{windowOf}
+use Rattle.weights.specs.declared.Window.{Window}
+use Rattle.block_checks.specs.Parts.{formRefusal, contentRefusal}
+use Rattle.block_checks.specs.Passed.{Windowed, Passed}
+use Rattle.block_checks.proofs.Sides.{sides-covered}
+
+through : (t : Bool) (x n : ℕ) → cond t x (suc n) ≡ 0 → (t ≡ true) × (x ≡ 0)
+through true x n e = (refl, e)
+through false x n e = absurd (omega arith)
+
+is-true : {t : Bool} → t ≡ true → T t
+is-true e = rw e tt
+
+-- checks 7 to 10
+pub record Formed (b : Block) : Type 0 where
+  pub log2 : ℕ
+  pub power : Covered (covered b) log2
+  pub first : isPowerBelow 6 (b .shape .cx) ≡ true
+  pub second : isPowerBelow 6 (b .shape .cy) ≡ true
+  pub levels-long : length (b .levels) ≡ 64 * covered b
+  pub scan-long : length (b .scan) ≡ 64 * covered b
+  pub source-long : length (b .source) ≡ 64 * covered b
+  pub inverse-long : length (b .inverse) ≡ 64 * covered b
+  pub strategy : b .shape .strategy ≤ 26
+  pub channel : b .shape .channel ≤ 2
+  pub settings : validSettings (b .settings) ≡ true
+  pub bias : validBias (b .bias) ≡ true
+
+pub parts8 :
+    (b : Block) → check8 b ≡ true
+    → (length (b .levels) ≡ 64 * covered b) × (length (b .scan) ≡ 64 * covered b) × (length (b .source) ≡ 64 * covered b) × (length (b .inverse) ≡ 64 * covered b)
+unfolding check8
+parts8 b e =
+    let n : ℕ = 64 * covered b in
+    let l = eqb (length (b .levels)) n in
+    let s = eqb (length (b .scan)) n in
+    let o = eqb (length (b .source)) n in
+    let i = eqb (length (b .inverse)) n in
+    let p = and-left (l && s && o) i e in
+    let q = and-left (l && s) o p in
+    (eqb-true _ _ (and-left l s q), eqb-true _ _ (and-right l s q), eqb-true _ _ (and-right (l && s) o p), eqb-true _ _ (and-right (l && s && o) i e))
+
+pub formed : (b : Block) → formRefusal b 0 ≡ 0 → Formed b
+unfolding formRefusal check7 check9 check10 covered
+formed b e =
+    let t7 = through (check7 b) _ 6 e in
+    let t8 = through (check8 b) _ 7 (t7 .1) in
+    let t9 = through (check9 b) _ 8 (t8 .1) in
+    let t10 = through (check10 b) _ 9 (t9 .1) in
+    let x = isPowerBelow 6 (b .shape .cx) in
+    let y = isPowerBelow 6 (b .shape .cy) in
+    let sides = sides-covered (b .shape .cx) (b .shape .cy) (and-left x y (t7 .0)) (and-right x y (t7 .0)) in
+    let long = parts8 b (t8 .0) in
+    record {
+      log2 = sides .0;
+      power = sides .1;
+      first = and-left x y (t7 .0);
+      second = and-right x y (t7 .0);
+      levels-long = long .0;
+      scan-long = long .1;
+      source-long = long .2;
+      inverse-long = long .3;
+      strategy = leb-true _ _ (and-left (leb (b .shape .strategy) 26) (leb (b .shape .channel) 2) (t9 .0));
+      channel = leb-true _ _ (and-right (leb (b .shape .strategy) 26) (leb (b .shape .channel) 2) (t9 .0));
+      settings = and-left (validSettings (b .settings)) (validBias (b .bias)) (t10 .0);
+      bias = and-right (validSettings (b .settings)) (validBias (b .bias)) (t10 .0);
+    }
+
+-- the two parts make up the whole
+pub in-parts : (v : Window) (b : Block) (later : ℕ) → blockRefusal v b later ≡ formRefusal b (contentRefusal v b later)
+unfolding blockRefusal formRefusal contentRefusal
+in-parts v b later = refl
+
+-- where the first part refuses, so does the whole
+pub form-first : (b : Block) (later : ℕ) {r : ℕ} → r ≡ formRefusal b 0 → (r ≡ 0 → ⊥) → r ≡ formRefusal b later
+unfolding formRefusal
+form-first b later {r} e n = go (check7 b) (check8 b) (check9 b) (check10 b) e
+  where
+    go : (a b c d : Bool) → r ≡ cond a (cond b (cond c (cond d 0 10) 9) 8) 7 → r ≡ cond a (cond b (cond c (cond d later 10) 9) 8) 7
+    go false b c d e = e
+    go true false c d e = e
+    go true true false d e = e
+    go true true true false e = e
+    go true true true true e = absurd (n e)
+
+pub form-passed : (b : Block) (later : ℕ) → formRefusal b 0 ≡ 0 → formRefusal b later ≡ later
+unfolding formRefusal
+form-passed b later e =
+    let t7 = through (check7 b) _ 6 e in
+    let t8 = through (check8 b) _ 7 (t7 .1) in
+    let t9 = through (check9 b) _ 8 (t8 .1) in
+    let t10 = through (check10 b) _ 9 (t9 .1) in
+    rw (t7 .0, t8 .0, t9 .0, t10 .0)
+
+-- a whole that passes has parts that pass
+both-parts : (b : Block) (later : ℕ) → formRefusal b later ≡ 0 → (formRefusal b 0 ≡ 0) × (later ≡ 0)
+unfolding formRefusal
+both-parts b later e =
+    let t7 = through (check7 b) _ 6 e in
+    let t8 = through (check8 b) _ 7 (t7 .1) in
+    let t9 = through (check9 b) _ 8 (t8 .1) in
+    let t10 = through (check10 b) _ 9 (t9 .1) in
+    (rw (t7 .0, t8 .0, t9 .0, t10 .0), t10 .1)
+
+-- document 01's window
+pub windowed : (c : ℕ) → 0 < c → Windowed c (windowOf c)
+unfolding windowOf
+windowed c h = go (eqb c 1) refl
+  where
+    go : (t : Bool) → eqb c 1 ≡ t → Windowed c (record { length = min (cond t 63 (min (64 * c) 1024)) (63 * c); restoring = cond t 20 (min (24 * c) 256) })
+    go true e =
+        let one = eqb-true c 1 e in
+        record {
+          some = le-min (lit≤ tt) (omega arith);
+          fits = omega (arith, min-le-right 63 (63 * c));
+          most = le-trans (min-le-left 63 (63 * c)) (lit≤ tt);
+          restoring = le-min (lit≤ tt) (omega arith);
+        }
+    go false e =
+        let low = min-le-left (24 * c) 256 in
+        let high = min-le-right (24 * c) 256 in
+        record {
+          some = le-min (le-min (omega arith) (lit≤ tt)) (omega arith);
+          fits = omega (arith, min-le-right (min (64 * c) 1024) (63 * c));
+          most = le-trans (min-le-left (min (64 * c) 1024) (63 * c)) (min-le-right (64 * c) 1024);
+          restoring = le-min (le-min (omega arith) (omega arith)) (omega arith);
+        }
+
+module _ (v : Window) (b : Block) where
+  levels-current : check12 b ≡ true → (k : ℕ) → covered b ≤ k → k < 64 * covered b → T (isCurrent (inputAt b k))
+  unfolding check12
+  levels-current e k l h =
+      let at : covered b + (k - covered b) ≡ k = omega arith in
+      is-true (rw at at (each-below (λ i. isCurrent (inputAt b (covered b + i))) (63 * covered b) e (k - covered b) (omega arith)))
+
+  window-ideals : check13 v b ≡ true → (i : ℕ) → i < v .length → T (isIdeal (ideal b i))
+  unfolding check13
+  window-ideals e i h = is-true (each-below (λ i. isIdeal (ideal b i)) (v .length) e i h)
+
+  -- any window within the block
+  pub passed-in : blockRefusal v b 0 ≡ 0 → Windowed (covered b) v → Passed v b
+  unfolding contentRefusal check11
+  passed-in e w =
+      let parts = both-parts b (contentRefusal v b 0) (sym (in-parts v b 0) ∙ e) in
+      let f = formed b (parts .0) in
+      let t11 = through (check11 b) _ 10 (parts .1) in
+      let t12 = through (check12 b) _ 11 (t11 .1) in
+      let t13 = through (check13 v b) _ 12 (t12 .1) in
+      record {
+        log2 = f .log2;
+        power = f .power;
+        some = covered-some (f .power);
+        most = covered-most (f .power);
+        levels-long = f .levels-long;
+        scan-long = f .scan-long;
+        source-long = f .source-long;
+        inverse-long = f .inverse-long;
+        strategy = f .strategy;
+        channel = f .channel;
+        settings = is-true (f .settings);
+        bias = is-true (f .bias);
+        scanned = perm-of (b .scan) (64 * covered b) (f .scan-long) (t11 .0);
+        current = levels-current (t12 .0);
+        ideals = window-ideals (t13 .0);
+        window = w;
+      }
+
+-- the window of document 01
+pub passed : (b : Block) → blockRefusal (windowOf (covered b)) b 0 ≡ 0 → Passed (windowOf (covered b)) b
+passed b e =
+    let f = formed b (both-parts b (contentRefusal (windowOf (covered b)) b 0) (sym (in-parts (windowOf (covered b)) b 0) ∙ e) .0) in
+    passed-in (windowOf (covered b)) b e (windowed (covered b) (covered-some (f .power)))
+
+-- ---- the refusals of a search, as its returns meet them
+module _ (book : Book) (b : Block) (room : Bool) where
+  pub refused-book : (bookRefusal book ≡ 0 → ⊥) → searchRefusal book b room ≡ bookRefusal book
+  unfolding searchRefusal
+  refused-book n = rw (ne-eqb (bookRefusal book) 0 n)
+
+  -- what comes after a block that is refused changes nothing
+  later-none : (v : Window) (later : ℕ) → (blockRefusal v b 0 ≡ 0 → ⊥) → blockRefusal v b later ≡ blockRefusal v b 0
+  unfolding blockRefusal
+  later-none v later = go (check7 b) (check8 b) (check9 b) (check10 b) (check11 b) (check12 b) (check13 v b)
+    where
+      whole : (a b c d e f g : Bool) → ℕ → ℕ
+      whole a b c d e f g x = cond a (cond b (cond c (cond d (cond e (cond f (cond g x 13) 12) 11) 10) 9) 8) 7
+
+      go : (a b c d e f g : Bool) → (whole a b c d e f g 0 ≡ 0 → ⊥) → whole a b c d e f g later ≡ whole a b c d e f g 0
+      go false b c d e f g n = refl
+      go true false c d e f g n = refl
+      go true true false d e f g n = refl
+      go true true true false e f g n = refl
+      go true true true true false f g n = refl
+      go true true true true true false g n = refl
+      go true true true true true true false n = refl
+      go true true true true true true true n = absurd (n refl)
+
+  module _ (ok : bookRefusal book ≡ 0) where
+    pub refused-block : (blockRefusal (windowOf (covered b)) b 0 ≡ 0 → ⊥) → searchRefusal book b room ≡ blockRefusal (windowOf (covered b)) b 0
+    unfolding searchRefusal
+    refused-block n = rw (eq-eqb (bookRefusal book) 0 ok) (later-none (windowOf (covered b)) (cond room 0 14) n)
+
+    pub refused-room : blockRefusal (windowOf (covered b)) b 0 ≡ 0 → searchRefusal book b room ≡ cond room 0 14
+    unfolding searchRefusal blockRefusal
+    refused-room e =
+        let v = windowOf (covered b) in
+        let t7 = through (check7 b) _ 6 e in
+        let t8 = through (check8 b) _ 7 (t7 .1) in
+        let t9 = through (check9 b) _ 8 (t8 .1) in
+        let t10 = through (check10 b) _ 9 (t9 .1) in
+        let t11 = through (check11 b) _ 10 (t10 .1) in
+        let t12 = through (check12 b) _ 11 (t11 .1) in
+        let t13 = through (check13 v b) _ 12 (t12 .1) in
+        rw (eq-eqb (bookRefusal book) 0 ok, t7 .0, t8 .0, t9 .0, t10 .0, t11 .0, t12 .0, t13 .0)

@@ -1,0 +1,4 @@
+mod Sides
+pub mod Laws
+mod Returns
+mod Room

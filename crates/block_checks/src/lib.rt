@@ -1,0 +1,215 @@
+// Checks 7 to 14, in the order in which they are made.
+use bias::DequantBias;
+use block::Shape;
+use weights::Settings;
+ghost use mathlib.Core.Path.{_≡_};
+ghost use mathlib.Core.Bool.{true, _&&_};
+ghost use Prim.Native.Nat.{_+_, _*_, _<_, _≤_};
+ghost use lib.Dec.{eqb, leb};
+ghost use lib.ListN.{length};
+ghost use Rattle.ac_context.specs.Contexts.{isPowerBelow};
+ghost use Rattle.block.specs.Block.{blockOf, covered, idealAt};
+ghost use Rattle.block.specs.Checks.{blockRefusal, trellisRoom, beamRoom};
+ghost use Rattle.candidates.specs.Candidates.{isCurrent};
+ghost use Rattle.candidates.specs.Nearest.{isIdeal};
+ghost use Rattle.prices.specs.Checks.{each};
+ghost use Rattle.scan.specs.Scan.{Perm, levelAt};
+ghost use Rattle.weights.specs.Window.{windowOf};
+ghost use Rattle.block_checks.specs.Parts.{formRefusal, contentRefusal};
+
+fn is_side(side: u32) -> bool
+    ensures { λ r. ⌜ r ≡ isPowerBelow 6 side ⌝ }
+{
+    if side == 32 {
+        return true;
+    }
+    if side == 16 {
+        return true;
+    }
+    if side == 8 {
+        return true;
+    }
+    if side == 4 {
+        return true;
+    }
+    if side == 2 {
+        return true;
+    }
+    side == 1
+}
+
+// Asked for sides that passed alone, so that the product fits.
+fn covered_blocks(cx: u32, cy: u32) -> usize
+    requires { ⌜ (isPowerBelow 6 cx ≡ true) × (isPowerBelow 6 cy ≡ true) ⌝ }
+    ensures { λ r. ⌜ r ≡ cx * cy ⌝ }
+{
+    (cx as usize) * (cy as usize)
+}
+
+fn hold(n: usize, scan: &[u32], source: &[f32], inv_qm: &[f32], levels: &[i32]) -> bool
+    ensures { λ r. ⌜ r ≡ (eqb (length (now (levels .entry))) n && eqb (length (now (scan .entry))) n && eqb (length (now (source .entry))) n && eqb (length (now («inv_qm» .entry))) n) ⌝ }
+{
+    if levels.len() != n {
+        return false;
+    }
+    if scan.len() != n {
+        return false;
+    }
+    if source.len() != n {
+        return false;
+    }
+    inv_qm.len() == n
+}
+
+fn is_coded(strategy: u8, channel: u8) -> bool
+    ensures { λ r. ⌜ r ≡ (leb strategy 26 && leb channel 2) ⌝ }
+{
+    if strategy > 26 {
+        return false;
+    }
+    channel <= 2
+}
+
+// Check 12: the levels from scan position c on.
+fn levels_within(covered_blocks: usize, scan: &[u32], levels: &[i32]) -> bool
+    requires { ⌜ Perm (now scan) (64 * «covered_blocks») ⌝ }
+    requires { ⌜ length (now levels) ≡ 64 * «covered_blocks» ⌝ }
+    ensures { λ r. ⌜ r ≡ each (63 * «covered_blocks») (λ i. isCurrent (levelAt (now (scan .entry)) (now (levels .entry)) («covered_blocks» + i))) ⌝ }
+{
+    let n = 63 * covered_blocks;
+    let mut i = 0;
+    while i < n {
+        if !candidates::is_current(steps::level_at(scan, levels, covered_blocks + i)) {
+            return false;
+        }
+        i += 1;
+    }
+    true
+}
+
+// Check 13: the ideals of the window.
+fn ideals_within(
+    covered_blocks: usize,
+    window: usize,
+    scan: &[u32],
+    source: &[f32],
+    inv_qm: &[f32],
+    scale: f32,
+) -> bool
+    requires { ⌜ Perm (now scan) (64 * «covered_blocks») ⌝ }
+    requires { ⌜ «covered_blocks» + window ≤ 64 * «covered_blocks» ⌝ }
+    requires { ⌜ length (now source) ≡ 64 * «covered_blocks» ⌝ }
+    requires { ⌜ length (now «inv_qm») ≡ 64 * «covered_blocks» ⌝ }
+    ensures { λ r. ⌜ r ≡ each window (λ i. isIdeal (idealAt (now (scan .entry)) (now (source .entry)) (now («inv_qm» .entry)) scale («covered_blocks» + i))) ⌝ }
+{
+    let mut i = 0;
+    while i < window {
+        if !candidates::is_ideal(steps::ideal_at(scan, source, inv_qm, scale, covered_blocks + i)) {
+            return false;
+        }
+        i += 1;
+    }
+    true
+}
+
+// Checks 7 to 10.
+fn check_form(
+    shape: Shape,
+    settings: Settings,
+    bias: DequantBias,
+    scale: f32,
+    scan: &[u32],
+    source: &[f32],
+    inv_qm: &[f32],
+    levels: &[i32],
+) -> u32
+    ensures { λ r. ⌜ r ≡ formRefusal (blockOf shape settings bias scale (now (scan .entry)) (now (source .entry)) (now («inv_qm» .entry)) (now (levels .entry))) 0 ⌝ }
+{
+    let cx = shape.cx;
+    let cy = shape.cy;
+    if !is_side(cx) {
+        return 7;
+    }
+    if !is_side(cy) {
+        return 7;
+    }
+    if !hold(64 * covered_blocks(cx, cy), scan, source, inv_qm, levels) {
+        return 8;
+    }
+    if !is_coded(shape.strategy, shape.channel) {
+        return 9;
+    }
+    if !settings.valid() {
+        return 10;
+    }
+    if bias.valid() { 0 } else { 10 }
+}
+
+// Checks 11 to 13.
+fn check_content(
+    shape: Shape,
+    settings: Settings,
+    bias: DequantBias,
+    scale: f32,
+    scan: &[u32],
+    source: &[f32],
+    inv_qm: &[f32],
+    levels: &[i32],
+) -> u32
+    requires { ⌜ formRefusal (blockOf shape settings bias scale (now scan) (now source) (now «inv_qm») (now levels)) 0 ≡ 0 ⌝ }
+    ensures { λ r. ⌜ r ≡ contentRefusal (windowOf (shape .cx * shape .cy)) (blockOf shape settings bias scale (now (scan .entry)) (now (source .entry)) (now («inv_qm» .entry)) (now (levels .entry))) 0 ⌝ }
+{
+    let covered = covered_blocks(shape.cx, shape.cy);
+    if !scan::each_once(scan) {
+        return 11;
+    }
+    if !levels_within(covered, scan, levels) {
+        return 12;
+    }
+    let window = weights::rdoq_window_len(covered);
+    if ideals_within(covered, window.length, scan, source, inv_qm, scale) {
+        0
+    } else {
+        13
+    }
+}
+
+// Checks 7 to 13: the number of the first that fails, or 0.
+pub fn check_block(
+    shape: Shape,
+    settings: Settings,
+    bias: DequantBias,
+    scale: f32,
+    scan: &[u32],
+    source: &[f32],
+    inv_qm: &[f32],
+    levels: &[i32],
+) -> u32
+    ensures { λ r. ⌜ (let b = blockOf shape settings bias scale (now (scan .entry)) (now (source .entry)) (now («inv_qm» .entry)) (now (levels .entry)) in r ≡ blockRefusal (windowOf (covered b)) b 0) ⌝ }
+{
+    let first = check_form(shape, settings, bias, scale, scan, source, inv_qm, levels);
+    if first != 0 {
+        return first;
+    }
+    check_content(shape, settings, bias, scale, scan, source, inv_qm, levels)
+}
+
+// Check 14 of the trellis: 28 choice bytes a window position, and 28 costs in each row.
+pub fn trellis_room(window: usize, choices: usize, row_a: usize, row_b: usize) -> bool
+    ensures { λ r. ⌜ r ≡ trellisRoom 6 window choices «row_a» «row_b» ⌝ }
+{
+    if window > choices / 28 {
+        return false;
+    }
+    if row_a < 28 {
+        return false;
+    }
+    row_b >= 28
+}
+
+// Check 14 of the beam: 6 choice bytes a window position.
+pub fn beam_room(window: usize, choices: usize) -> bool
+    ensures { λ r. ⌜ r ≡ beamRoom window choices ⌝ }
+{
+    window <= choices / 6
+}

@@ -1,0 +1,3 @@
+pub mod Painted
+pub mod Filled
+pub mod Prefixed

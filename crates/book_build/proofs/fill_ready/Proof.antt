@@ -1,0 +1,36 @@
+-- `book_build::fill_ready` meets its contract. Assumes nothing.
+use mathlib.Core.Path.{_≡_, sym, _∙_}
+use Rattle.prices.proofs.Passed.{sound}
+use Rattle.book_checks.proofs.Steps.{sound-row}
+use Rattle.book_build.proofs.Filled.{refused, accepted}
+use borrow.Author.Needs.{needs}
+use Rattle.book_build.proofs.fill_ready.Statement.{statement}
+use Rattle.book_build.proofs.fill_ready.Tie as tie
+
+check-five-requires : tie.Need-check-five-requires
+check-five-requires c κs = search needs
+
+same-length : tie.Need-same-length
+same-length c = search needs
+
+returns : tie.Need-returns
+returns c = (c .before .check-five .ensures, sym (refused _ (λ e. c .if1 .taken (c .before .check-five .ensures ∙ e))))
+
+write-ready-requires : tie.Need-write-ready-requires
+write-ready-requires c κs =
+    let p = sound _ (sym (c .before .before .check-five .ensures) ∙ c .before .if1 .left) in
+    (sound-row _ p, p .ready-long)
+
+same-length-2 : tie.Need-same-length-2
+same-length-2 c = search needs
+
+returns-2 : tie.Need-returns-2
+returns-2 c =
+    let found = c .before .before .before .before in
+    let zero = sym (found .before .check-five .ensures) ∙ found .if1 .left in
+    (sym zero, c .before .before .write-ready .ensures ∙ sym (accepted _ zero))
+
+pub fill-ready-spec : {M : Type 1} → statement M
+fill-ready-spec =
+    tie.close
+    (tie.spec check-five-requires same-length returns write-ready-requires same-length-2 returns-2)

@@ -1,0 +1,3 @@
+pub mod Paint
+pub mod Fill
+pub mod Prefix

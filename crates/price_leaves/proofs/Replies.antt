@@ -1,0 +1,120 @@
+-- Which reply a price call owes.
+use Prim.Native.Nat.{ℕ, _+_, _*_, _<_, _≤_}
+use mathlib.Core.Path.{_≡_, refl, sym, ap, _∙_, subst}
+use mathlib.Core.Bool.{Bool, true, false, _&&_, _||_}
+use native.Mathlib.Omega.{arith}
+use lib.Dec.{leb, ltb, eqb}
+use lib.Ieee.{Float}
+use lib.ListN.{length, getD}
+use borrow.Author.Tests.{eq-eqb, ne-eqb, le-leb, lt-leb, lt-ltb, le-ltb}
+use Rattle.prices.specs.Book.{Book, at, clusterValid, clusterSymbol, clusterPrice, price}
+use Rattle.prices.specs.Checks.{symbolPrice, sameBits, check1, check2}
+use Rattle.prices.proofs.Each.{both}
+use Rattle.price_leaves.specs.Leaf.{clusterPasses, entriesPass, inDomain, lengthsPass, entryReply, tokenReply, pairReply, pick, pickPair}
+use Rattle.price_leaves.specs.declared.Price.{Price}
+use Rattle.price_leaves.specs.declared.Price.the-variants.{Bits, Refused}
+use Rattle.price_leaves.specs.declared.PricePair.{PricePair}
+use Rattle.price_leaves.specs.declared.PricePair.the-variants as Pair
+
+and-false : (b : Bool) → (b && false) ≡ false
+and-false true = refl
+and-false false = refl
+
+-- ---- the entries of one context
+
+module _ (b : Book) (context v : ℕ) where
+  abbrev cluster : ℕ
+  cluster = getD (b .map) context 0
+
+  pub no-cluster : b .clusters ≤ cluster → Refused 17 ≡ entryReply b context v
+  unfolding entryReply entriesPass clusterPasses
+  no-cluster h = simp (le-ltb cluster (b .clusters) h)
+
+  pub no-config : clusterValid (b .configs) cluster ≡ false → Refused 17 ≡ entryReply b context v
+  unfolding entryReply entriesPass clusterPasses
+  no-config e = simp (e, and-false)
+
+  pub no-symbol : symbolPrice (at (b .symbols) (128 * cluster + clusterSymbol (b .configs) cluster v)) ≡ false → Refused 17 ≡ entryReply b context v
+  unfolding entryReply entriesPass clusterPasses
+  no-symbol e = simp (e, and-false)
+
+  pub no-ready : v < 256 → sameBits (at (b .ready) (256 * cluster + v)) (clusterPrice (b .configs) (b .symbols) cluster v) ≡ false → Refused 17 ≡ entryReply b context v
+  unfolding entryReply entriesPass clusterPasses
+  no-ready h e = simp (lt-leb 256 v h, e, and-false)
+
+  module _ (hk : cluster < b .clusters) (valid : clusterValid (b .configs) cluster ≡ true) (symbol : symbolPrice (at (b .symbols) (128 * cluster + clusterSymbol (b .configs) cluster v)) ≡ true) where
+    pub large : 256 ≤ v → Bits (price b context v) ≡ entryReply b context v
+    unfolding entryReply entriesPass clusterPasses
+    large h = simp (lt-ltb cluster (b .clusters) hk, valid, symbol, le-leb 256 v h)
+
+    pub small : v < 256 → sameBits (at (b .ready) (256 * cluster + v)) (clusterPrice (b .configs) (b .symbols) cluster v) ≡ true → Bits (price b context v) ≡ entryReply b context v
+    unfolding entryReply entriesPass clusterPasses
+    small h e = simp (lt-ltb cluster (b .clusters) hk, valid, symbol, lt-leb 256 v h, e)
+
+-- ---- the lengths
+
+module _ (b : Book) where
+  pub amiss1 : check1 b ≡ false → false ≡ lengthsPass b
+  unfolding lengthsPass
+  amiss1 e = simp e
+
+  pub amiss2 : check2 b ≡ false → false ≡ lengthsPass b
+  unfolding lengthsPass
+  amiss2 e = simp (e, and-false)
+
+  pub ready-alone : check1 b ≡ true → length (b .configs) ≡ 3 * b .clusters → length (b .symbols) ≡ 128 * b .clusters → eqb (length (b .ready)) (256 * b .clusters) ≡ lengthsPass b
+  unfolding lengthsPass check2
+  ready-alone e p q = simp (e, eq-eqb _ _ p, eq-eqb _ _ q)
+
+  pub lengths : lengthsPass b ≡ true → (check1 b ≡ true) × (check2 b ≡ true)
+  unfolding lengthsPass
+  lengths e = both (check1 b) (check2 b) e
+
+-- ---- the domain
+
+module _ (b : Book) (context v : ℕ) where
+  pub no-lengths : lengthsPass b ≡ false → Refused 17 ≡ tokenReply b context v
+  unfolding tokenReply inDomain
+  no-lengths e = simp e
+
+  pub no-context : 14850 ≤ context → Refused 17 ≡ tokenReply b context v
+  unfolding tokenReply inDomain
+  no-context h = simp (le-ltb context 14850 h, and-false)
+
+  pub no-value : 131071 < v → Refused 17 ≡ tokenReply b context v
+  unfolding tokenReply inDomain
+  no-value h = simp (lt-leb v 131071 h, and-false)
+
+  pub entries : lengthsPass b ≡ true → context < 14850 → v ≤ 131071 → entryReply b context v ≡ tokenReply b context v
+  unfolding tokenReply entryReply inDomain
+  entries e h k = simp (e, lt-ltb context 14850 h, le-leb v 131071 k)
+
+-- ---- a pair
+
+was-refused : (d : Bool) (x : Float) (n : ℕ) → pick d (Bits x) (Refused 17) ≡ Refused n → d ≡ false
+was-refused true x n e = let z : _≡_ {A = ℕ} 0 1 = cc in absurd (omega arith)
+was-refused false x n e = refl
+
+was-priced : (d : Bool) (x y : Float) → pick d (Bits x) (Refused 17) ≡ Bits y → (d ≡ true) × (x ≡ y)
+was-priced true x y e = (refl, cc)
+was-priced false x y e = let z : _≡_ {A = ℕ} 0 1 = cc in absurd (omega arith)
+
+module _ (b : Book) (context v : ℕ) where
+  pub no-second : 14849 ≤ context → Pair.Refused 17 ≡ pairReply b context v
+  unfolding pairReply inDomain
+  no-second h = simp (le-ltb (context + 1) 14850 (omega arith), and-false)
+
+  pub first-refused : (n : ℕ) → tokenReply b context v ≡ Refused n → Pair.Refused 17 ≡ pairReply b context v
+  unfolding pairReply tokenReply
+  first-refused n e = simp (was-refused (inDomain b context v) (price b context v) n e)
+
+  pub second-refused : (n : ℕ) → tokenReply b (context + 1) v ≡ Refused n → Pair.Refused 17 ≡ pairReply b context v
+  unfolding pairReply tokenReply
+  second-refused n e = simp (was-refused (inDomain b (context + 1) v) (price b (context + 1) v) n e, and-false)
+
+  pub both-priced : (x y : Float) → tokenReply b context v ≡ Bits x → tokenReply b (context + 1) v ≡ Bits y → Pair.Bits x y ≡ pairReply b context v
+  unfolding pairReply tokenReply
+  both-priced x y e d =
+      let p = was-priced (inDomain b context v) (price b context v) x e in
+      let q = was-priced (inDomain b (context + 1) v) (price b (context + 1) v) y d in
+      simp (p .0, q .0, p .1, q .1)

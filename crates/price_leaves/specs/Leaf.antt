@@ -1,0 +1,53 @@
+-- What a price call answers, whatever it is handed (document 01, module 4 and check 17).
+use Prim.Native.Nat.{ℕ, _+_, _*_}
+use mathlib.Core.Bool.{Bool, true, false, _&&_, _||_}
+use lib.Dec.{leb, ltb}
+use lib.ListN.{getD}
+use Rattle.prices.specs.Book.{Book, at, clusterValid, clusterSymbol, clusterPrice, price}
+use Rattle.prices.specs.Checks.{symbolPrice, sameBits, check1, check2}
+use Rattle.price_leaves.specs.declared.Price.{Price}
+use Rattle.price_leaves.specs.declared.Price.the-variants.{Bits, Refused}
+use Rattle.price_leaves.specs.declared.PricePair.{PricePair}
+use Rattle.price_leaves.specs.declared.PricePair.the-variants as Pair
+
+-- The entries that value v in cluster k reads pass 3 to 6: the cluster is one, its configuration is valid, the symbol's price is one, and so is the ready price of a value below 256.
+unfoldable pub clusterPasses : Book → ℕ → ℕ → Bool
+clusterPasses b k v =
+    ltb k (b .clusters)
+    && clusterValid (b .configs) k
+    && symbolPrice (at (b .symbols) (128 * k + clusterSymbol (b .configs) k v))
+    && (leb 256 v || sameBits (at (b .ready) (256 * k + v)) (clusterPrice (b .configs) (b .symbols) k v))
+
+-- the entries for value v in a context
+unfoldable pub entriesPass : Book → ℕ → ℕ → Bool
+entriesPass b context v = clusterPasses b (getD (b .map) context 0) v
+
+unfoldable pub lengthsPass : Book → Bool
+lengthsPass b = check1 b && check2 b
+
+-- A price call's domain: checks 1 and 2, a context, a value of module 1, and the entries that it reads.
+unfoldable pub inDomain : Book → ℕ → ℕ → Bool
+inDomain b context v = lengthsPass b && ltb context 14850 && leb v 131071 && entriesPass b context v
+
+abbrev pub pick : Bool → Price → Price → Price
+pick true a b = a
+pick false a b = b
+
+abbrev pub pickPair : Bool → PricePair → PricePair → PricePair
+pickPair true a b = a
+pickPair false a b = b
+
+-- the same of a context and a value in range, in a book of the right lengths
+unfoldable pub entryReply : Book → ℕ → ℕ → Price
+entryReply b context v = pick (entriesPass b context v) (Bits (price b context v)) (Refused 17)
+
+-- The price, or refusal 17.
+unfoldable pub tokenReply : Book → ℕ → ℕ → Price
+tokenReply b context v = pick (inDomain b context v) (Bits (price b context v)) (Refused 17)
+
+-- The prices in a context and the next one, or refusal 17.
+unfoldable pub pairReply : Book → ℕ → ℕ → PricePair
+pairReply b context v =
+    pickPair (inDomain b context v && inDomain b (context + 1) v)
+    (Pair.Bits (price b context v) (price b (context + 1) v))
+    (Pair.Refused 17)

@@ -1,0 +1,139 @@
+// The price calls that take anything: a price, or refusal 17 (document 01, module 4).
+ghost use mathlib.Core.Path.{_≡_};
+ghost use mathlib.Core.Bool.{true};
+ghost use Prim.Native.Nat.{_≤_, _<_, _+_};
+ghost use Rattle.prices.specs.Book.{bookOf};
+ghost use Rattle.prices.specs.Checks.{check1, check2};
+ghost use Rattle.price_leaves.specs.Leaf.{tokenReply, pairReply, entryReply, lengthsPass};
+
+pub enum Price {
+    Bits(f32),
+    Refused(u32),
+}
+
+pub enum PricePair {
+    Bits(f32, f32),
+    Refused(u32),
+}
+
+const OUTSIDE: u32 = 17;
+
+// The price of a value in a context of a book with the right lengths, where the entries that it reads pass their checks.
+fn entry_price(
+    clusters: u32,
+    map: &[u8],
+    configs: &[u8],
+    symbols: &[f32],
+    ready: &[f32],
+    context: usize,
+    value: u32,
+) -> Price
+    requires { ⌜ check1 (bookOf clusters (now map) (now configs) (now symbols) (now ready)) ≡ true ⌝ }
+    requires { ⌜ check2 (bookOf clusters (now map) (now configs) (now symbols) (now ready)) ≡ true ⌝ }
+    requires { ⌜ context < 14850 ⌝ }
+    requires { ⌜ value ≤ 131071 ⌝ }
+    ensures { λ r. ⌜ r ≡ entryReply (bookOf clusters (now (map .entry)) (now (configs .entry)) (now (symbols .entry)) (now (ready .entry))) context value ⌝ }
+{
+    let cluster = map[context] as usize;
+    if cluster >= clusters as usize {
+        return Price::Refused(OUTSIDE);
+    }
+    let at = 3 * cluster;
+    if packing::valid_config(configs[at], configs[at + 1], configs[at + 2]) {
+        let split = prices::cluster_split(configs, cluster, value);
+        let symbol = 128 * cluster + split.symbol as usize;
+        if book_checks::unpriced(symbols[symbol]) != 0 {
+            return Price::Refused(OUTSIDE);
+        }
+        let price = prices::cluster_price(configs, symbols, cluster, value);
+        if value >= 256 {
+            return Price::Bits(price);
+        }
+        if book_checks::differs(ready[256 * cluster + value as usize], price) != 0 {
+            return Price::Refused(OUTSIDE);
+        }
+        return Price::Bits(price);
+    }
+    Price::Refused(OUTSIDE)
+}
+
+// Whether a book's lengths pass checks 1 and 2.
+fn lengths_pass(clusters: u32, map: &[u8], configs: &[u8], symbols: &[f32], ready: &[f32]) -> bool
+    ensures { λ r. ⌜ r ≡ lengthsPass (bookOf clusters (now (map .entry)) (now (configs .entry)) (now (symbols .entry)) (now (ready .entry))) ⌝ }
+{
+    if map.len() != 14850 {
+        return false;
+    }
+    if clusters == 0 {
+        return false;
+    }
+    if clusters > 256 {
+        return false;
+    }
+    let n = clusters as usize;
+    if configs.len() != 3 * n {
+        return false;
+    }
+    if symbols.len() != 128 * n {
+        return false;
+    }
+    ready.len() == 256 * n
+}
+
+// The price of a value in a context.
+pub fn token_bits(
+    clusters: u32,
+    map: &[u8],
+    configs: &[u8],
+    symbols: &[f32],
+    ready: &[f32],
+    context: u32,
+    value: u32,
+) -> Price
+    ensures { λ r. ⌜ r ≡ tokenReply (bookOf clusters (now (map .entry)) (now (configs .entry)) (now (symbols .entry)) (now (ready .entry))) context value ⌝ }
+{
+    if context >= 14850 {
+        return Price::Refused(OUTSIDE);
+    }
+    if value > 131071 {
+        return Price::Refused(OUTSIDE);
+    }
+    if lengths_pass(clusters, map, configs, symbols, ready) {
+        return entry_price(
+            clusters,
+            map,
+            configs,
+            symbols,
+            ready,
+            context as usize,
+            value,
+        );
+    }
+    Price::Refused(OUTSIDE)
+}
+
+// The prices of a value in a context and the next one.
+pub fn token_bits_pair(
+    clusters: u32,
+    map: &[u8],
+    configs: &[u8],
+    symbols: &[f32],
+    ready: &[f32],
+    context: u32,
+    value: u32,
+) -> PricePair
+    ensures { λ r. ⌜ r ≡ pairReply (bookOf clusters (now (map .entry)) (now (configs .entry)) (now (symbols .entry)) (now (ready .entry))) context value ⌝ }
+{
+    if context >= 14849 {
+        return PricePair::Refused(OUTSIDE);
+    }
+    let one = token_bits(clusters, map, configs, symbols, ready, context, value);
+    let two = token_bits(clusters, map, configs, symbols, ready, context + 1, value);
+    match one {
+        Price::Refused(_) => PricePair::Refused(OUTSIDE),
+        Price::Bits(a) => match two {
+            Price::Refused(_) => PricePair::Refused(OUTSIDE),
+            Price::Bits(b) => PricePair::Bits(a, b),
+        },
+    }
+}

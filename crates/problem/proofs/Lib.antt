@@ -1,0 +1,7 @@
+-- A block's search problem; `Main` lists the theorems.
+mod Terms
+pub mod Local
+pub mod Problem
+pub mod Tokens
+pub mod Input
+pub mod Main

@@ -1,0 +1,88 @@
+-- The theorems of least cost, of a block's search problem, in document 01's words. The book passes checks 1 to 6 and the block 7 to 13; half-width and window are
+-- parameters, and document 01's are 6 and `windowOf c`. Assumes nothing.
+use mathlib.Core.Path.{_≡_, refl, subst, subst⁻¹}
+use mathlib.Core.Logic.{_↔_}
+use mathlib.Core.Bool.{Bool, false}
+use mathlib.Core.List.{List}
+use Prim.Native.Nat.{ℕ, _+_, _≤_}
+use lib.Dec.{T}
+use lib.IntN.{ℤ}
+use lib.Ieee.{Float, inf, le, lt}
+use lib.Ieee.Scale.{finite}
+use Rattle.ac_context.specs.Contexts.{fineZeroDensityContextsOffset, zeroDensityContext}
+use Rattle.bias.specs.Level.{isLevel}
+use Rattle.block.specs.Block.{Block, covered, contextOf, inputRemaining}
+use Rattle.block.specs.Cost.{tokenPrice}
+use Rattle.block.specs.Checks.{blockRefusal}
+use Rattle.block.specs.Band.{problemOf, halfWidth}
+use Rattle.block_checks.specs.Passed.{Passed}
+use Rattle.block_checks.proofs.Laws.{passed}
+use Rattle.least_cost.specs.Search.{countOf, wholeCost, wholeInfinite, leastTotal, leastCount, leastLevels}
+use Rattle.least_cost.proofs.Whole.{Banded, Sound, Answer}
+use Rattle.least_cost.proofs.Main as Least
+use Rattle.packing.specs.Signed.{packSigned}
+use Rattle.prices.specs.Book.{Book}
+use Rattle.prices.specs.Checks.{bookRefusal}
+use Rattle.prices.proofs.Costs.{symbolPriceOf}
+use Rattle.weights.specs.Window.{windowOf}
+use Rattle.weights.specs.declared.Window.{Window}
+use Rattle.problem.specs.Tokens.{inputFrom, pastLength, needsInfinite}
+use Rattle.problem.proofs.Terms.{price-infinite}
+use Rattle.problem.proofs.Local.{packed-value}
+use Rattle.problem.proofs.Problem.{sound, capped-problem}
+use Rattle.problem.proofs.Tokens.{infinite-token}
+use Rattle.problem.proofs.Input.{input-banded, count-near}
+
+module _ (w : ℕ) (v : Window) (book : Book) (ok : bookRefusal book ≡ 0) (b : Block) (P : Passed v b) where
+  -- Where the least cost is finite, the levels found are a choice in the band; the count and the cost answered are theirs; no choice in the band costs less, and none
+  -- with a smaller count costs as little.
+  pub found : T (finite (leastTotal (problemOf w v book b))) → Answer (problemOf w v book b)
+  found = Least.found (problemOf w v book b) (sound book ok v b P w)
+
+  -- No choice in the band costs less, finite or not.
+  pub none-cheaper : (cs : List ℤ) → Banded (problemOf w v book b) cs → T (le (leastTotal (problemOf w v book b)) (wholeCost (problemOf w v book b) cs))
+  none-cheaper = Least.none-cheaper (problemOf w v book b) (sound book ok v b P w)
+
+  -- Refusal 15: the least cost is infinite exactly where each choice in the band needs a token of infinite price.
+  pub each-needs-infinite :
+      (leastTotal (problemOf w v book b) ≡ inf false) ↔ ((cs : List ℤ) → Banded (problemOf w v book b) cs → T (needsInfinite v book b cs))
+  each-needs-infinite =
+      let p = problemOf w v book b in
+      let h = Least.needs-infinite p (sound book ok v b P w) 194 (pastLength v b) (capped-problem book ok v b P w) in (
+        λ e cs B. subst (λ (t : Bool). T t) (infinite-token book ok v b P w cs B) (h .0 e cs B),
+        λ f. h .1 (λ cs B. subst⁻¹ (λ (t : Bool). T t) (infinite-token book ok v b P w cs B) (f cs B)),
+      )
+
+  -- A token's price is infinite exactly where its symbol's is.
+  pub token-infinite :
+      (remaining k prev : ℕ) (q : ℤ) → T (isLevel q)
+      → (tokenPrice book b remaining k prev q ≡ inf false)
+      ↔ (symbolPriceOf book (fineZeroDensityContextsOffset (contextOf b) + zeroDensityContext (covered b) remaining k prev) (packSigned q) ≡ inf false)
+  unfolding tokenPrice
+  token-infinite remaining k prev q h = price-infinite book ok _ (packSigned q) (packed-value q h)
+
+  -- The band is never empty: it has the input's own levels.
+  pub input-in-band : Banded (problemOf w v book b) (inputFrom b (covered b) (v .length))
+  input-in-band = input-banded w v book b P
+
+  -- The whole count differs from the input's by at most w + 1.
+  pub count-within :
+      (cs : List ℤ) → Banded (problemOf w v book b) cs
+      → (inputRemaining b (covered b) ≤ countOf (problemOf w v book b) cs + (w + 1)) × (countOf (problemOf w v book b) cs ≤ inputRemaining b (covered b) + (w + 1))
+  count-within = count-near w v book b P ok
+
+-- ---- with document 01's half-width and window
+module _ (book : Book) (ok : bookRefusal book ≡ 0) (b : Block) (passes : blockRefusal (windowOf (covered b)) b 0 ≡ 0) where
+  pub trellis-found : T (finite (leastTotal (problemOf halfWidth (windowOf (covered b)) book b))) → Answer (problemOf halfWidth (windowOf (covered b)) book b)
+  trellis-found = found halfWidth (windowOf (covered b)) book ok b (passed b passes)
+
+  pub trellis-refused :
+      (leastTotal (problemOf halfWidth (windowOf (covered b)) book b) ≡ inf false)
+      ↔ ((cs : List ℤ) → Banded (problemOf halfWidth (windowOf (covered b)) book b) cs → T (needsInfinite (windowOf (covered b)) book b cs))
+  trellis-refused = each-needs-infinite halfWidth (windowOf (covered b)) book ok b (passed b passes)
+
+  pub trellis-count :
+      (cs : List ℤ) → Banded (problemOf halfWidth (windowOf (covered b)) book b) cs
+      → (inputRemaining b (covered b) ≤ countOf (problemOf halfWidth (windowOf (covered b)) book b) cs + 7)
+      × (countOf (problemOf halfWidth (windowOf (covered b)) book b) cs ≤ inputRemaining b (covered b) + 7)
+  trellis-count = count-within halfWidth (windowOf (covered b)) book ok b (passed b passes)

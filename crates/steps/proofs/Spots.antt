@@ -1,0 +1,71 @@
+-- What is read at a window position is what the block's definitions give. Assumes nothing.
+use mathlib.Core.Path.{_≡_, refl, sym, ap, _∙_}
+use mathlib.Core.Bool.{Bool, cond}
+use mathlib.Core.List.{List, [], _∷_, _++_}
+use Prim.Native.Nat.{ℕ, _+_, _≤_, _<_}
+use native.Mathlib.Omega.{arith}
+use lib.Dec.{T, eqb, ltb, le→leb}
+use lib.IntN.{ℤ, pos}
+use lib.ListN.{length, getD, take}
+use lib.Ieee.{Float}
+use mir.Syntax.{w32}
+use mir.Val.{ofZ, toZ}
+use Rattle.bias.specs.Level.{isLevel}
+use Rattle.block.specs.Block.{Block, covered, inputAt, ideal, idealAt, candidatesAt}
+use Rattle.candidates.specs.Candidates.{candidatesOf, filled, filler, isCurrent}
+use Rattle.candidates.specs.Nearest.{isIdeal}
+use Rattle.candidates.specs.declared.Candidates.{Candidates}
+use Rattle.candidates.proofs.Laws.{candidates-listed, inside-at, filled-at, filled-length, filled-count}
+use Rattle.least_cost.specs.Position.{nz}
+use Rattle.scan.specs.Scan.{levelAt}
+use Rattle.weights.specs.Settings.{weightAt, scaledWeight}
+use Rattle.weights.specs.Window.{windowOf}
+use Rattle.weights.specs.declared.Window.{Window}
+use Rattle.steps.specs.Place.{placeOf, nonzeroRate}
+use Rattle.steps.specs.Plan.{Planned, Lists, Spotted, Usable, listed}
+use Rattle.steps.specs.declared.Place.{Place}
+use Rattle.steps.specs.declared.reading.Plan.{Plan}
+use Rattle.steps.specs.declared.reading.Spot.{Spot}
+
+-- the candidates as the leaf hands them over
+pub filled-usable : (x : Float) (q : ℤ) (restore : Bool) (c : Candidates) → T (isIdeal x) → T (isCurrent q) → c ≡ filled (filler q restore) (candidatesOf x q restore) → Usable c
+filled-usable x q restore c X Q e =
+    let l = candidates-listed x q restore X Q in
+    rw e
+    (record {
+      few = rw (filled-count (filler q restore) (candidatesOf x q restore)) (l .five);
+      five = filled-length (filler q restore) (candidatesOf x q restore) (l .five);
+      levels = λ j h.
+          let k = rw (filled-count (filler q restore) (candidatesOf x q restore)) at h in
+          rw (filled-at (filler q restore) (candidatesOf x q restore) j k) (le→leb _ 32768 (inside-at l j k));
+    })
+
+whole : (xs ys : List ℤ) → take (length xs) (xs ++ ys) ≡ xs
+whole [] ys = refl
+whole (x ∷ xs) ys = ap (λ (l : List ℤ). x ∷ l) (whole xs ys)
+
+pub filled-listed : (x : Float) (q : ℤ) (restore : Bool) (c : Candidates) → c ≡ filled (filler q restore) (candidatesOf x q restore) → listed c ≡ candidatesOf x q restore
+unfolding filled
+filled-listed x q restore c e = ap listed e ∙ whole (candidatesOf x q restore) _
+
+-- what the code works out at a window position, from a plan and the lists
+pub spotted : (b : Block) (p : Plan) (i : ℕ) (scan : List ℕ) (source inverse : List Float) (levels : List ℤ) (restoring : Bool) (x weight rate : Float) (q : ℤ) (c : Candidates)
+    → Lists b scan source inverse levels → Planned b p → restoring ≡ ltb i (p .window .restoring)
+    → x ≡ idealAt scan source inverse (p .scale) (p .covered + i) → q ≡ levelAt scan levels (p .covered + i) → weight ≡ scaledWeight (p .«channel_scale») i (p .base) (p .distance)
+    → rate ≡ cond (eqb (nz q) 0) (p .«restore_rate») (p .lambda) → c ≡ filled (filler q restoring) (candidatesOf x q restoring)
+    → Spotted b (p .log2) i
+    (record {
+      place = record { k = p .covered + i; covered = p .covered; log2 = p .log2; offset = p .offset; weight = weight; ideal = x; bias = p .bias; lambda = p .lambda; «nonzero_rate» = rate };
+      candidates = c;
+      level = q;
+    })
+unfolding placeOf nonzeroRate ideal inputAt candidatesAt weightAt
+spotted b p i scan source inverse levels restoring x weight rate q c l w r ex eq ew er ec =
+    let at : p .covered + i ≡ covered b + i = ap (λ (n : ℕ). n + i) (w .covered-is) in
+    let level : q ≡ levelAt (b .scan) (b .levels) (covered b + i) = cc in
+    let value : x ≡ idealAt (b .scan) (b .source) (b .inverse) (b .scale) (covered b + i) = cc in
+    record {
+      place-is = cc;
+      listed-is = filled-listed x q restoring c ec ∙ cc (ap (λ (v : Window). ltb i (v .restoring)) (w .window-is));
+      level-is = level;
+    }

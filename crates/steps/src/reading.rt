@@ -1,0 +1,114 @@
+// What is worked out once for a block, and what a search reads of it at one window position.
+use crate::Place;
+use bias::DequantBias;
+use block::Shape;
+use candidates::Candidates;
+use weights::Settings;
+use weights::Window;
+ghost use mathlib.Core.Path.{_≡_};
+ghost use mathlib.Core.Bool.{true, cond};
+ghost use lib.Dec.{eqb};
+ghost use Rattle.least_cost.specs.Position.{nz};
+ghost use mathlib.Core.List.{[]};
+ghost use Prim.Native.Nat.{_+_, _*_, _<_, _≤_};
+ghost use Rattle.ac_context.specs.Contexts.{isPowerBelow};
+ghost use Rattle.block.specs.Block.{Block, blockOf};
+ghost use Rattle.steps.specs.Plan.{Planned, Coded, Lists, Readable, Spotted, Usable};
+
+// What a block's shape, settings, bias and scale give.
+pub struct Plan {
+    pub covered: usize,
+    pub log2: u32,
+    pub window: Window,
+    pub base: usize,
+    pub offset: usize,
+    pub count_context: usize,
+    pub channel_scale: f32,
+    pub distance: f32,
+    pub bias: DequantBias,
+    pub lambda: f32,
+    pub restore_rate: f32,
+    pub scale: f32,
+}
+
+// A window position: what prices a level there, the candidates, and the level that is there.
+pub struct Spot {
+    pub place: Place,
+    pub candidates: Candidates,
+    pub level: i32,
+}
+
+pub fn plan_of(shape: Shape, settings: Settings, bias: DequantBias, scale: f32) -> Plan
+    requires { ⌜ (isPowerBelow 6 (shape .cx) ≡ true) × (isPowerBelow 6 (shape .cy) ≡ true) ⌝ }
+    requires { ⌜ (shape .strategy ≤ 26) × (shape .channel ≤ 2) ⌝ }
+    ensures { λ r. ⌜ Planned (blockOf shape settings bias scale [] [] [] []) r ⌝ }
+    ensures { λ r. ⌜ Coded r ⌝ }
+{
+    let covered = shape.cx as usize * shape.cy as usize;
+    let block = ac_context::fine_block_context(
+        shape.channel as usize,
+        shape.strategy as usize,
+        shape.qf_hi,
+    );
+    Plan {
+        covered,
+        log2: ac_context::log2_covered(covered),
+        window: weights::rdoq_window_len(covered),
+        base: weights::base_len(covered),
+        offset: ac_context::fine_zero_density_contexts_offset(block) as usize,
+        count_context: ac_context::fine_non_zero_context(shape.predicted as u32, block) as usize,
+        channel_scale: settings.channel_scale(shape.channel),
+        distance: settings.distance,
+        bias,
+        lambda: settings.lambda,
+        restore_rate: settings.restore_rate(),
+        scale,
+    }
+}
+
+impl Plan {
+    pub fn spot(
+        self,
+        scan: &[u32],
+        source: &[f32],
+        inv_qm: &[f32],
+        levels: &[i32],
+        i: usize,
+    ) -> Spot
+        requires { ⌜ Readable (now scan) (now source) (now «inv_qm») (now levels) (self .scale) (self .covered + i) ⌝ }
+        requires { ⌜ (self .base ≤ 1024) × (self .covered + i < 65536) ⌝ }
+        ensures { λ r. ⌜ ((b : Block) → Lists b (now (scan .entry)) (now (source .entry)) (now («inv_qm» .entry)) (now (levels .entry)) → Planned b self → Spotted b (self .log2) i r) ⌝ }
+        ensures { λ r. ⌜ Usable (r .candidates) ⌝ }
+    {
+        let k = self.covered + i;
+        let ideal = crate::ideal_at(scan, source, inv_qm, self.scale, k);
+        let level = crate::level_at(scan, levels, k);
+        let window = self.window;
+        let bias = self.bias;
+        Spot {
+            place: Place {
+                k,
+                covered: self.covered,
+                log2: self.log2,
+                offset: self.offset,
+                weight: weights::position_weight(self.channel_scale, i, self.base, self.distance),
+                ideal,
+                bias,
+                lambda: self.lambda,
+                nonzero_rate: self.nonzero_rate(level),
+            },
+            candidates: candidates::rdoq_candidates(ideal, level, i < window.restoring),
+            level,
+        }
+    }
+
+    fn nonzero_rate(self, level: i32) -> f32
+        ensures { λ r. ⌜ r ≡ cond (eqb (nz level) 0) (self .«restore_rate») (self .lambda) ⌝ }
+    {
+        if level == 0 {
+            self.restore_rate
+        } else {
+            self.lambda
+        }
+    }
+}

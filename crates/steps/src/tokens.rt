@@ -1,0 +1,134 @@
+// Tokens that no choice changes: the count's, and those past the window.
+use crate::reading::Plan;
+ghost use mathlib.Core.Path.{_≡_};
+ghost use mathlib.Core.Bool.{false};
+ghost use Prim.Native.Nat.{_+_, _-_, _*_, _<_, _≤_};
+ghost use lib.Dec.{T};
+ghost use lib.IntN.{pos};
+ghost use lib.ListN.{length};
+ghost use lib.Ieee.{fin, mul, binary32};
+ghost use Rattle.ac_context.specs.Contexts.{Coefficient};
+ghost use Rattle.block.specs.Block.{Block, nonzerosAmong};
+ghost use Rattle.block.specs.Cost.{tokenPrice, tokensFrom, countCost};
+ghost use Rattle.candidates.specs.Candidates.{isCurrent};
+ghost use Rattle.prices.specs.Book.{bookOf};
+ghost use Rattle.prices.specs.Checks.{bookRefusal};
+ghost use Rattle.scan.specs.Scan.{levelAt};
+ghost use Rattle.steps.specs.Plan.{Planned, Coded, Whole};
+
+// The nonzero levels from scan position `from` to the end.
+pub fn nonzeros_from(scan: &[u32], levels: &[i32], from: usize, covered: usize) -> usize
+    requires { ⌜ Whole covered from (now scan) (now levels) ⌝ }
+    requires { ⌜ from ≤ length (now scan) ⌝ }
+    ensures { λ r. ⌜ r ≡ nonzerosAmong (now (scan .entry)) (now (levels .entry)) from (length (now (scan .entry)) - from) ⌝ }
+{
+    let mut k = scan.len();
+    let mut count = 0;
+    while from < k {
+        k -= 1;
+        count += crate::nonzero(crate::level_at(scan, levels, k));
+    }
+    count
+}
+
+// lambda times the price of a level's token.
+fn token_cost(
+    clusters: u32,
+    map: &[u8],
+    configs: &[u8],
+    symbols: &[f32],
+    ready: &[f32],
+    plan: Plan,
+    remaining: usize,
+    k: usize,
+    prev: usize,
+    level: i32,
+) -> f32
+    requires { ⌜ bookRefusal (bookOf clusters (now map) (now configs) (now symbols) (now ready)) ≡ 0 ⌝ }
+    requires { ⌜ Coded plan ⌝ }
+    requires { ⌜ Coefficient (plan .covered) remaining k prev ⌝ }
+    requires { ⌜ T (isCurrent level) ⌝ }
+    ensures { λ r. ⌜ ((b : Block) → Planned b plan → r ≡ mul binary32 (plan .lambda) (tokenPrice (bookOf clusters (now (map .entry)) (now (configs .entry)) (now (symbols .entry)) (now (ready .entry))) b remaining k prev level)) ⌝ }
+{
+    let context = plan.offset
+        + ac_context::zero_density_context(remaining, k, plan.covered, plan.log2, prev);
+    let value = packing::pack_signed(level);
+    plan.lambda * prices::token_bits(clusters, map, configs, symbols, ready, context, value)
+}
+
+// lambda times the price of the count.
+pub fn count_cost(
+    clusters: u32,
+    map: &[u8],
+    configs: &[u8],
+    symbols: &[f32],
+    ready: &[f32],
+    plan: Plan,
+    count: usize,
+) -> f32
+    requires { ⌜ bookRefusal (bookOf clusters (now map) (now configs) (now symbols) (now ready)) ≡ 0 ⌝ }
+    requires { ⌜ Coded plan ⌝ }
+    requires { ⌜ count ≤ 65536 ⌝ }
+    ensures { λ r. ⌜ ((b : Block) → Planned b plan → r ≡ countCost (bookOf clusters (now (map .entry)) (now (configs .entry)) (now (symbols .entry)) (now (ready .entry))) b count) ⌝ }
+{
+    plan.lambda
+        * prices::token_bits(
+            clusters,
+            map,
+            configs,
+            symbols,
+            ready,
+            plan.count_context,
+            count as u32,
+        )
+}
+
+// What the levels from scan position `from` on cost, token by token until none of the `count` nonzero ones is left.
+pub fn tail_cost(
+    clusters: u32,
+    map: &[u8],
+    configs: &[u8],
+    symbols: &[f32],
+    ready: &[f32],
+    plan: Plan,
+    scan: &[u32],
+    levels: &[i32],
+    from: usize,
+    count: usize,
+    before: usize,
+) -> f32
+    requires { ⌜ bookRefusal (bookOf clusters (now map) (now configs) (now symbols) (now ready)) ≡ 0 ⌝ }
+    requires { ⌜ Coded plan ⌝ }
+    requires { ⌜ Whole (plan .covered) from (now scan) (now levels) ⌝ }
+    requires { ⌜ (plan .covered ≤ from) × (from ≤ length (now scan)) ⌝ }
+    requires { ⌜ (count ≡ nonzerosAmong (now scan) (now levels) from (length (now scan) - from)) × (before ≤ 1) ⌝ }
+    ensures { λ r. ⌜ ((b : Block) → now (scan .entry) ≡ b .scan → now (levels .entry) ≡ b .levels → Planned b plan
+        → r ≡ tokensFrom (bookOf clusters (now (map .entry)) (now (configs .entry)) (now (symbols .entry)) (now (ready .entry))) b (length (now (scan .entry)) - from) count from before (fin false 0 (pos 0))) ⌝ }
+{
+    let mut remaining = count;
+    let mut prev = before;
+    let mut k = from;
+    let mut sum = 0.0f32;
+    while k < scan.len() {
+        if remaining == 0 {
+            return sum;
+        }
+        let level = crate::level_at(scan, levels, k);
+        sum += token_cost(
+            clusters,
+            map,
+            configs,
+            symbols,
+            ready,
+            plan,
+            remaining,
+            k,
+            prev,
+            level,
+        );
+        prev = crate::nonzero(level);
+        remaining -= prev;
+        k += 1;
+    }
+    sum
+}
