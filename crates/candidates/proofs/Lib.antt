@@ -3,4 +3,3 @@ pub mod Levels
 pub mod Lists
 pub mod Sizes
 pub mod Laws
-pub mod Examples

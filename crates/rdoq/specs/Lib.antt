@@ -1,4 +1,5 @@
 pub mod Leaf
+pub mod Tokens
 pub mod Contexts
 pub mod Dequant
 pub mod Weighing

@@ -1,5 +1,9 @@
 // What the calls answer.
+use packing::Split;
 use weights::Window;
+
+// The refusal of arguments outside a leaf call's domain.
+pub const OUTSIDE: u32 = 17;
 
 // A whole number, or the number of the refusal.
 pub enum Number {
@@ -10,6 +14,12 @@ pub enum Number {
 // A float, or the number of the refusal.
 pub enum Real {
     Value(f32),
+    Refused(u32),
+}
+
+// A value's symbol with its extra bits, or the number of the refusal.
+pub enum Token {
+    Value(Split),
     Refused(u32),
 }
 

@@ -1,9 +1,8 @@
 // The contexts of a block's tokens.
 use crate::answer::Number;
+use crate::answer::OUTSIDE;
 ghost use mathlib.Core.Path.{_≡_};
 ghost use Rattle.rdoq.specs.Contexts.{blockContextReply, nonZeroContextReply, offsetReply, zeroDensityReply};
-
-const OUTSIDE: u32 = 17;
 
 // The block context of a channel (X = 0, Y = 1, B = 2), a strategy code and a quant class.
 pub fn fine_block_context(channel: u32, strategy: u32, qf_hi: bool) -> Number

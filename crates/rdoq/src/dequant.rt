@@ -1,10 +1,9 @@
 // The value that a decoder restores from a level.
+use crate::answer::OUTSIDE;
 use crate::answer::Real;
 use bias::DequantBias;
 ghost use mathlib.Core.Path.{_≡_};
 ghost use Rattle.rdoq.specs.Dequant.{levelReply};
-
-const OUTSIDE: u32 = 17;
 
 // The biased level. Takes levels within ±32,768 and a record that passes check 10.
 pub fn level(bias: DequantBias, quant: i32) -> Real

@@ -1,10 +1,9 @@
 // The levels that a search may pick for one coefficient.
 use crate::answer::Listed;
 use crate::answer::Number;
+use crate::answer::OUTSIDE;
 ghost use mathlib.Core.Path.{_≡_};
 ghost use Rattle.rdoq.specs.Levels.{candidatesReply};
-
-const OUTSIDE: u32 = 17;
 
 // The candidates, the current level first. Takes a level and an ideal within ±32,767.
 pub fn rdoq_candidates(ideal: f32, current: i32, restore: bool) -> Listed

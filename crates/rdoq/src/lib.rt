@@ -3,4 +3,5 @@ pub mod answer;
 pub mod contexts;
 pub mod dequant;
 pub mod levels;
+pub mod tokens;
 pub mod weighing;

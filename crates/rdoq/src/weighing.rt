@@ -1,10 +1,9 @@
 // Lambda, the weights of distortion and the lengths of a window.
 use crate::answer::Lengths;
+use crate::answer::OUTSIDE;
 use crate::answer::Real;
 ghost use mathlib.Core.Path.{_≡_};
 ghost use Rattle.rdoq.specs.Weighing.{lambdaReply, chromaReply, distortionReply, windowReply};
-
-const OUTSIDE: u32 = 17;
 
 // Lambda from the two constants of the encoder and the quant field ratio, which must be a number.
 pub fn rdoq_lambda(rd: f32, tuning: f32, ratio: f32) -> Real

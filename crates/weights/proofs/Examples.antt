@@ -1,17 +1,11 @@
--- The definitions compute on document 01's row, c = 1, 2, 16, 32, and on some weights. Assumes nothing.
+-- The definitions compute on some base lengths and weights. Assumes nothing.
 use mathlib.Core.Path.{_≡_, refl}
 use mathlib.Core.Bool.{false}
 use mathlib.Core.List.{[], _∷_, map}
 use lib.IntN.{pos, negsuc}
 use lib.Ieee.{fin, ofInt, add, sub, mul, div, lt}
-use Rattle.weights.specs.Window.{windowLen, restoreLen, baseLen}
+use Rattle.weights.specs.Window.{baseLen}
 use Rattle.weights.specs.Weights.{chromaWeight, distortionWeight}
-
-windows : map windowLen (1 ∷ 2 ∷ 16 ∷ 32 ∷ []) ≡ 63 ∷ 126 ∷ 1008 ∷ 1024 ∷ []
-windows = refl
-
-restoring : map restoreLen (1 ∷ 2 ∷ 16 ∷ 32 ∷ []) ≡ 20 ∷ 48 ∷ 256 ∷ 256 ∷ []
-restoring = refl
 
 bases : map baseLen (1 ∷ 2 ∷ 16 ∷ 32 ∷ []) ≡ 24 ∷ 48 ∷ 64 ∷ 64 ∷ []
 bases = refl

@@ -1,12 +1,12 @@
 -- `level` meets its contract. Assumes nothing.
 use mathlib.Core.Path.{_≡_, sym, ap, _∙_, subst}
-use mathlib.Core.Bool.{Bool, true, false}
+use mathlib.Core.Bool.{true, false}
 use lib.Dec.{T}
 use lib.IntN.{ℤ}
 use mir.Syntax.{w32}
-use mir.Val.{toZ, ofZ}
 use mir.ValLaws.{toZ-ofZ}
 use Rattle.bias.specs.Level.{isLevel, biased}
+use Rattle.rdoq.proofs.Tested.{tested}
 use Rattle.rdoq.specs.Leaf.{real}
 use Rattle.rdoq.specs.Dequant.{levelReply}
 use Rattle.rdoq.proofs.dequant.level.Statement.{statement}
@@ -21,17 +21,13 @@ valid-requires c κs = tt
 level-requires : tie.Need-level-requires
 level-requires c κs = subst T (sym (sym (c .before .before .before .is-level .ensures) ∙ c .before .before .if1 .taken)) tt
 
--- the test as the call makes it
-tested : (q : ℤ) (r b : Bool) → toZ w32 (ofZ w32 q) ≡ q → r ≡ isLevel (toZ w32 (ofZ w32 q)) → r ≡ b → isLevel q ≡ b
-tested q r b e f g = sym (f ∙ ap isLevel e) ∙ g
-
 returns : tie.Need-returns
 unfolding levelReply
 returns c =
     let s = c .before .before .before .before .before in
     let q = s .args .quant in
     let e = toZ-ofZ w32 q (s .fits .quant) in
-    rw (tested q _ true e (c .before .before .before .before .is-level .ensures) (c .before .before .before .if1 .taken), sym (c .before .before .valid .ensures) ∙ c .before .if2 .taken)
+    rw (tested isLevel q _ true e (c .before .before .before .before .is-level .ensures) (c .before .before .before .if1 .taken), sym (c .before .before .valid .ensures) ∙ c .before .if2 .taken)
     (ap (real true) (c .level .ensures ∙ ap (biased (s .args .bias)) e))
 
 returns-2 : tie.Need-returns-2
@@ -39,14 +35,14 @@ unfolding levelReply
 returns-2 c =
     let s = c .before .before .before .before in
     let q = s .args .quant in
-    rw (tested q _ true (toZ-ofZ w32 q (s .fits .quant)) (c .before .before .before .is-level .ensures) (c .before .before .if1 .taken), sym (c .before .valid .ensures) ∙ c .if2 .left)
+    rw (tested isLevel q _ true (toZ-ofZ w32 q (s .fits .quant)) (c .before .before .before .is-level .ensures) (c .before .before .if1 .taken), sym (c .before .valid .ensures) ∙ c .if2 .left)
 
 returns-3 : tie.Need-returns-3
 unfolding levelReply
 returns-3 c =
     let s = c .before .before in
     let q = s .args .quant in
-    rw (tested q _ false (toZ-ofZ w32 q (s .fits .quant)) (c .before .is-level .ensures) (c .if1 .left))
+    rw (tested isLevel q _ false (toZ-ofZ w32 q (s .fits .quant)) (c .before .is-level .ensures) (c .if1 .left))
 
 pub level-spec : {M : Type 1} → statement M
 level-spec =

@@ -7,12 +7,12 @@ use lib.Dec.{T}
 use lib.IntN.{ℤ}
 use lib.Ieee.{Float}
 use mir.Syntax.{w32}
-use mir.Val.{toZ, ofZ}
 use mir.ValLaws.{toZ-ofZ}
 use Rattle.candidates.specs.declared.Candidates.{Candidates}
 use Rattle.candidates.specs.Nearest.{isIdeal}
 use Rattle.candidates.specs.Candidates.{candidatesOf, filled, filler, isCurrent}
 use Rattle.candidates.proofs.Laws.{candidates-listed, filled-count}
+use Rattle.rdoq.proofs.Tested.{tested}
 use Rattle.rdoq.specs.Levels.{listed, candidatesReply}
 use Rattle.rdoq.proofs.levels.rdoq_candidates.Statement.{statement}
 use Rattle.rdoq.proofs.levels.rdoq_candidates.Tie as tie
@@ -43,10 +43,6 @@ cast-t9 c =
     (subst T (sym (sym (c .before .before .before .is-current .ensures) ∙ c .before .before .if2 .taken)) tt) (c .before .rdoq-candidates .ensures) in
     omega arith
 
--- the test as the call makes it
-tested : (q : ℤ) (r b : Bool) → toZ w32 (ofZ w32 q) ≡ q → r ≡ isCurrent (toZ w32 (ofZ w32 q)) → r ≡ b → isCurrent q ≡ b
-tested q r b e f g = sym (f ∙ ap isCurrent e) ∙ g
-
 returns : tie.Need-returns
 unfolding candidatesReply
 returns c =
@@ -55,7 +51,7 @@ returns c =
     let e = toZ-ofZ w32 q (s .fits .current) in
     rw (
       sym (c .before .before .before .before .before .is-ideal .ensures) ∙ c .before .before .before .before .if1 .taken,
-      tested q _ true e (c .before .before .before .is-current .ensures) (c .before .before .if2 .taken),
+      tested isCurrent q _ true e (c .before .before .before .is-current .ensures) (c .before .before .if2 .taken),
     )
     (ap (listed true) (c .before .rdoq-candidates .ensures ∙ ap (λ (z : ℤ). filled (filler z (s .args .restore)) (candidatesOf (s .args .ideal) z (s .args .restore))) e))
 
@@ -64,7 +60,7 @@ unfolding candidatesReply
 returns-2 c =
     let s = c .before .before .before .before in
     let q = s .args .current in
-    rw (sym (c .before .before .before .is-ideal .ensures) ∙ c .before .before .if1 .taken, tested q _ false (toZ-ofZ w32 q (s .fits .current)) (c .before .is-current .ensures) (c .if2 .left))
+    rw (sym (c .before .before .before .is-ideal .ensures) ∙ c .before .before .if1 .taken, tested isCurrent q _ false (toZ-ofZ w32 q (s .fits .current)) (c .before .is-current .ensures) (c .if2 .left))
 
 returns-3 : tie.Need-returns-3
 unfolding candidatesReply
