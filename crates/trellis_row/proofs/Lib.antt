@@ -5,3 +5,4 @@ pub mod Noting
 pub mod Tying
 pub mod Choosing
 pub mod Rows
+pub mod Recursion

@@ -1,0 +1,66 @@
+-- A state's cost and level are those of the recursion's step. Assumes nothing.
+use mathlib.Core.Path.{_≡_, refl, sym, ap, _∙_, subst, subst⁻¹}
+use mathlib.Core.Bool.{Bool, true, false, cond, not, _&&_}
+use mathlib.Core.List.{List, List·Memᴰ as Mem}
+use Prim.Native.Nat.{ℕ, _+_, _-_, _*_, _≤_, _<_}
+use native.Mathlib.Omega.{arith}
+use lib.IntN.{ℤ, pos}
+use lib.Dec.{T, leb}
+use lib.Ieee.{Float, nan, inf, lt, add, binary32}
+use lib.Ieee.Scale.{finite}
+use lib.ListN.{getD}
+use borrow.Author.Tests.{leb-true, leb-false, le-leb, lt-leb}
+use Rattle.costs.specs.Cost.{cost}
+use Rattle.costs.proofs.Order.{inf-lt}
+use Rattle.costs.proofs.Sum.{add-inf, add-cost}
+use Rattle.least_cost.specs.Position.{Position, Priced, nz, within, allowed}
+use Rattle.least_cost.specs.Search.{least, holder, nonzeros, hasZero, trial, step}
+use Rattle.least_cost.proofs.First.{least-cost}
+use Rattle.least_cost.proofs.Nonzero.{least-trial, holder-trial, step-zero, least-nonzeros, holder-nonzeros, no-nonzeros}
+use Rattle.least_cost.proofs.Trial.{nonzeros-listed}
+use Rattle.trellis_row.specs.Chosen.{with, nonzeroCost, zeroCost, stateCost, stateLevel}
+use Rattle.trellis_row.proofs.Choosing.{zero-listed}
+use Rattle.trellis_row.proofs.Rows.{dead-least}
+
+module _ (q : Position) (r p : ℕ) (d : ℕ → ℕ → Float) (x z : Float) (G : (c : ℤ) → Mem c (q .candidates) → T (cost (q .price r p c)))
+    (X : x ≡ cond (leb 1 r && within q (r - 1)) (d (r - 1) 1) (inf false)) (Z : hasZero (q .candidates) ≡ true → z ≡ cond (within q r) (d r 0) (inf false)) (C : T (cost x)) where
+  levels : List ℤ
+  levels = q .candidates
+
+  g : ℤ → Float
+  g = q .price r p
+
+  nonzero-least : nonzeroCost (q .price r p) x (q .candidates) ≡ least (step q r p d) (inf false) (nonzeros (q .candidates))
+  unfolding nonzeroCost
+  nonzero-least = go (leb 1 r && within q (r - 1)) refl X
+    where
+      go : (t : Bool) → leb 1 r && within q (r - 1) ≡ t → x ≡ cond t (d (r - 1) 1) (inf false) → least (with (q .price r p) x) (inf false) (nonzeros (q .candidates)) ≡ least (step q r p d) (inf false) (nonzeros (q .candidates))
+      go true e f = ap (λ (y : Float). least (with (q .price r p) y) (inf false) (nonzeros (q .candidates))) f ∙ sym (least-nonzeros q r p d (subst⁻¹ (λ (t : Bool). T t) e tt))
+      go false e f =
+          ap (λ (y : Float). least (with (q .price r p) y) (inf false) (nonzeros (q .candidates))) f
+          ∙ dead-least (q .price r p) (nonzeros (q .candidates)) (λ c m. G c (nonzeros-listed (q .candidates) c m))
+          ∙ sym (no-nonzeros q r p d (subst⁻¹ (λ (t : Bool). T (not t)) e tt))
+
+  zero-step : hasZero (q .candidates) ≡ true → with (q .price r p) z (pos 0) ≡ step q r p d (pos 0)
+  zero-step h = go (within q r) refl (Z h) ∙ sym (step-zero q r p d)
+    where
+      go : (t : Bool) → within q r ≡ t → z ≡ cond t (d r 0) (inf false) → with (q .price r p) z (pos 0) ≡ cond (within q r) (add binary32 (q .price r p (pos 0)) (d r 0)) (inf false)
+      go true e f = rw (f, e)
+      go false e f = rw (f, e) (add-inf binary32 (q .price r p (pos 0)) (G (pos 0) (zero-listed (q .candidates) h)))
+
+  nonzero-cost : T (cost (nonzeroCost (q .price r p) x (q .candidates)))
+  unfolding nonzeroCost cost
+  nonzero-cost = least-cost (with (q .price r p) x) (inf false) (nonzeros (q .candidates)) tt (λ c m. add-cost binary32 (q .price r p c) x (G c (nonzeros-listed (q .candidates) c m)) C)
+
+  pub state-best : stateCost (q .price r p) x z (q .candidates) ≡ least (step q r p d) (inf false) (trial (q .candidates))
+  unfolding stateCost zeroCost
+  state-best = go (hasZero (q .candidates)) refl ∙ sym (least-trial (step q r p d) (q .candidates) (inf false))
+    where
+      v : Float
+      v = least (step q r p d) (inf false) (nonzeros (q .candidates))
+
+      go : (t : Bool) → hasZero (q .candidates) ≡ t
+          → cond (lt (cond t (with (q .price r p) z (pos 0)) (inf false)) (nonzeroCost (q .price r p) x (q .candidates))) (cond t (with (q .price r p) z (pos 0)) (inf false)) (nonzeroCost (q .price r p) x (q .candidates))
+          ≡ cond (hasZero (q .candidates)) (cond (lt (step q r p d (pos 0)) v) (step q r p d (pos 0)) v) v
+      go true h = rw (h, zero-step h, nonzero-least)
+      go false h = rw (h, inf-lt (nonzeroCost (q .price r p) x (q .candidates)) nonzero-cost) nonzero-least
