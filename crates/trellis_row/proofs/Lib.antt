@@ -6,3 +6,4 @@ pub mod Tying
 pub mod Choosing
 pub mod Rows
 pub mod Recursion
+pub mod Table
