@@ -160,5 +160,5 @@ module _ (t : Tail) (q : Position) (qs : List Position) (Q : AllPriced t (q ∷ 
               I .entry (2 * (r - least) + p) (place r p P (w .0) (w .1)) .level (subst⁻¹ (λ (y : Float). T (finite y)) (value r p P (w .0) (w .1)) f) ∙ level-is r p P (w .0) (w .1);
           below = λ r p P f.
               let w = inside r p P f in
-              I .entry (2 * (r - least) + p) (place r p P (w .0) (w .1)) .below (subst⁻¹ (λ (y : Float). T (finite y)) (value r p P (w .0) (w .1)) f)
+              I .entry (2 * (r - least) + p) (place r p P (w .0) (w .1)) .below (subst⁻¹ (λ (y : Float). T (finite y)) (value r p P (w .0) (w .1)) f);
         }

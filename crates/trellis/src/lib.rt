@@ -1,0 +1,2 @@
+// The count-banded trellis: a least-cost choice of levels in the band.
+mod position;
