@@ -1,10 +1,11 @@
 -- The rows of the trellis: which counts the row of each position holds, and what the rows and choices stand for.
 use Prim.Native.Nat.{ℕ, suc, _+_, _-_, _*_, _≤_, _<_, max, min}
 use mathlib.Core.Path.{_≡_}
+use mathlib.Core.Bool.{Bool, cond}
 use mathlib.Core.List.{List}
 use lib.IntN.{ℤ}
-use lib.ListN.{length}
-use lib.Ieee.{Float}
+use lib.ListN.{length, getD}
+use lib.Ieee.{Float, nan}
 use Rattle.block.specs.Block.{Block, covered, inputRemaining}
 use Rattle.block.specs.Band.{positionAt, positionsFrom, tailOf, pastWindow, halfWidth}
 use Rattle.block.specs.Checks.{blockRefusal}
@@ -60,3 +61,24 @@ pub record Stepped (book : Book) (b : Block) (i : ℕ) (row row' : List Float) (
   pub chosen : ChosenAt book b i choices'
   pub elsewhere : Elsewhere (28 * i) 28 choices choices'
   pub after-is : s .after ≡ inputRemaining b (covered b + i)
+
+-- from i on every position's choices are there
+pub record ChosenFrom (book : Book) (b : Block) (i : ℕ) (choices : List ℕ) : Type 0 where
+  pub each : (j : ℕ) → i ≤ j → j < windowLength b → ChosenAt book b j choices
+
+-- the positions from i on are done: the live row is the first where `inFirst`, else the second
+pub record Rowed (book : Book) (b : Block) (i : ℕ) (first second : List Float) (choices : List ℕ) (s : Step) (inFirst : Bool) : Type 0 where
+  pub live : RowAt book b i (cond inFirst first second) (s .counts)
+  pub chosen : ChosenFrom book b i choices
+  pub after-is : s .after ≡ inputRemaining b (covered b + i)
+
+-- a row's length and the choices' stay
+pub record Kept (a a' b b' : List Float) (c c' : List ℕ) : Type 0 where
+  pub first : length a' ≡ length a
+  pub second : length b' ≡ length b
+  pub choices : length c' ≡ length c
+
+-- the first pair of a row is the tail's, for `prev` 0 and 1
+pub record TailRow (book : Book) (b : Block) (past : ℕ) (row : List Float) : Type 0 where
+  pub zero : getD row 0 nan ≡ tail book b .cost 0
+  pub one : getD row 1 nan ≡ tail book b .cost 1

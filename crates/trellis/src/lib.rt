@@ -1,2 +1,3 @@
 // The count-banded trellis: a least-cost choice of levels in the band.
+mod exchange;
 mod position;
