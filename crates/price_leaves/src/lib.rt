@@ -49,7 +49,7 @@ fn entry_price(
         if value >= 256 {
             return Price::Bits(price);
         }
-        if book_checks::differs(ready[256 * cluster + value as usize], price) != 0 {
+        if book_rows::differs(ready[256 * cluster + value as usize], price) != 0 {
             return Price::Refused(OUTSIDE);
         }
         return Price::Bits(price);

@@ -4,7 +4,7 @@ use mathlib.Core.Bool.{Bool, cond}
 use Prim.Native.Nat.{ℕ}
 use Rattle.prices.specs.Checks.{check6, fillRefusal}
 use Rattle.prices.proofs.Passed.{sound, six, first-five}
-use Rattle.book_checks.proofs.Steps.{sound-row}
+use Rattle.book_rows.proofs.Steps.{sound-row}
 use borrow.Author.Needs.{needs}
 use Rattle.book_checks.proofs.check_book.Statement.{statement}
 use Rattle.book_checks.proofs.check_book.Tie as tie

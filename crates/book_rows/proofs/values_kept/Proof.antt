@@ -1,4 +1,4 @@
-use Rattle.book_checks.proofs.Steps.{row-cost}
+use Rattle.book_rows.proofs.Steps.{row-cost}
 use Prim.Native.Nat.{ℕ, suc, _+_, _-_, _*_, _<_, _≤_, max}
 use mathlib.Core.Path.{_≡_, refl, sym, ap, _∙_, subst}
 use mathlib.Core.Bool.{Bool, true, false}
@@ -11,8 +11,8 @@ use Rattle.prices.specs.Checks.{each, symbolPrice, mapBelow, allPriced, sameBit
 use Rattle.prices.proofs.Each.{each-below, each-all, each-more, each-fails, each-count}
 use Rattle.prices.proofs.Costs.{cluster-cost, symbol-within}
 use borrow.Author.Needs.{needs}
-use Rattle.book_checks.proofs.values_kept.Statement.{statement}
-use Rattle.book_checks.proofs.values_kept.Tie as tie
+use Rattle.book_rows.proofs.values_kept.Statement.{statement}
+use Rattle.book_rows.proofs.values_kept.Tie as tie
 
 abbrev Inv-loop : tie.InvT-loop
 Inv-loop configs symbols ready cluster bad₀ v₀ bad v = (v ≤ 256) × (bad ≤ v) × (each v (λ w. sameBits (at ready (256 * cluster + w)) (clusterPrice configs symbols cluster w)) ≡ eqb bad 0)

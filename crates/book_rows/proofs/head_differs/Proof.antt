@@ -1,4 +1,4 @@
--- `book_checks::head_differs` meets its contract. Assumes nothing.
+-- `book_rows::head_differs` meets its contract. Assumes nothing.
 use lib.Ieee.{ofBits}
 use Rattle.prices.proofs.Costs.{zero-sum-cost}
 use Prim.Native.Nat.{ℕ, suc, _+_, _-_, _*_, _<_, _≤_}
@@ -9,10 +9,10 @@ use lib.Dec.{T, eqb}
 use lib.ListN.{length, getD}
 use Rattle.prices.specs.Checks.{each}
 use Rattle.prices.proofs.Each.{each-count}
-use Rattle.book_checks.specs.Row.{headKept, runKept}
+use Rattle.book_rows.specs.Row.{headKept, runKept}
 use borrow.Author.Needs.{needs}
-use Rattle.book_checks.proofs.head_differs.Statement.{statement}
-use Rattle.book_checks.proofs.head_differs.Tie as tie
+use Rattle.book_rows.proofs.head_differs.Statement.{statement}
+use Rattle.book_rows.proofs.head_differs.Tie as tie
 
 abbrev Inv-loop : tie.InvT-loop
 Inv-loop symbols ready cluster count from to bad₀ i₀ bad i = (i ≤ count) × (bad ≤ i) × (each i (headKept symbols ready cluster) ≡ eqb bad 0)

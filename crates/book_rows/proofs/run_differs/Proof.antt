@@ -1,4 +1,4 @@
--- `book_checks::run_differs` meets its contract. Assumes nothing.
+-- `book_rows::run_differs` meets its contract. Assumes nothing.
 use Prim.Native.Nat.{ℕ, suc, _+_, _-_, _*_, _<_, _≤_}
 use mathlib.Core.Path.{_≡_, refl, sym, ap, _∙_, subst}
 use mathlib.Core.Bool.{Bool, true, false}
@@ -7,10 +7,10 @@ use lib.Dec.{T, eqb}
 use lib.ListN.{length, getD}
 use Rattle.prices.specs.Checks.{each}
 use Rattle.prices.proofs.Each.{each-count}
-use Rattle.book_checks.specs.Row.{headKept, runKept}
+use Rattle.book_rows.specs.Row.{headKept, runKept}
 use borrow.Author.Needs.{needs}
-use Rattle.book_checks.proofs.run_differs.Statement.{statement}
-use Rattle.book_checks.proofs.run_differs.Tie as tie
+use Rattle.book_rows.proofs.run_differs.Statement.{statement}
+use Rattle.book_rows.proofs.run_differs.Tie as tie
 
 abbrev Inv-loop : tie.InvT-loop
 Inv-loop ready from count price bad₀ i₀ bad i = (i ≤ count) × (bad ≤ i) × (each i (runKept ready from price) ≡ eqb bad 0)

@@ -1,4 +1,4 @@
--- `book_checks::runs_kept` meets its contract: the values of a run have one price. Assumes nothing.
+-- `book_rows::runs_kept` meets its contract: the values of a run have one price. Assumes nothing.
 use Prim.Native.Nat.{ℕ, suc, _+_, _-_, _*_, _^_, _<_, _≤_}
 use mathlib.Core.Path.{_≡_, sym, ap, _∙_, subst, subst⁻¹, subst₂}
 use mathlib.Core.Bool.{Bool, true, false, _&&_}
@@ -13,12 +13,12 @@ use Rattle.packing.specs.Hybrid.{topBit}
 use Rattle.packing.proofs.Hybrid.{top-from, top-most}
 use Rattle.prices.specs.Book.{at, clusterPrice}
 use Rattle.prices.specs.Checks.{each, sameBits, rowKept}
-use Rattle.book_checks.specs.Row.{headKept, runKept}
-use Rattle.book_checks.proofs.Steps.{row-cost}
-use Rattle.book_checks.proofs.Runs.{Begin, power-begins, next, stays, head-all, run-all, config-is}
+use Rattle.book_rows.specs.Row.{headKept, runKept}
+use Rattle.book_rows.proofs.Steps.{row-cost}
+use Rattle.book_rows.proofs.Runs.{Begin, power-begins, next, stays, head-all, run-all, config-is}
 use borrow.Author.Needs.{needs}
-use Rattle.book_checks.proofs.runs_kept.Statement.{statement}
-use Rattle.book_checks.proofs.runs_kept.Tie as tie
+use Rattle.book_rows.proofs.runs_kept.Statement.{statement}
+use Rattle.book_rows.proofs.runs_kept.Tie as tie
 
 abbrev Inv-loop : tie.InvT-loop
 Inv-loop configs symbols ready cluster s m v₀ bad₀ v bad = (2 ^ s ≤ v) × (v ≤ 256) × Begin m v × (bad ≤ v) × (each v (λ w. sameBits (at ready (256 * cluster + w)) (clusterPrice configs symbols cluster w)) ≡ eqb bad 0)
