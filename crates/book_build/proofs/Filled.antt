@@ -9,7 +9,7 @@ use lib.ListN.{length, getD}
 use lib.Ieee.{Float, nan, toBits, binary32}
 use borrow.Author.Tests.{eq-eqb, ne-eqb}
 use Rattle.prices.specs.Book.{Book, at, clusterPrice}
-use Rattle.prices.specs.Checks.{each, sameBits, rowKept, check1, check2, check3, check4, check5, check6, firstFive, fillRefusal, bookRefusal}
+use Rattle.prices.specs.Checks.{each, sameBits, rowKept, check1, check2, check3, check4, check5, check6, firstTwo, firstFive, fillRefusal, bookRefusal}
 use Rattle.prices.proofs.Each.{each-all}
 use Rattle.prices.proofs.Passed.{Sound, sound, six}
 use Rattle.book_build.specs.Paint.{paint}
@@ -29,7 +29,7 @@ same-length b e = ap length (accepted b e) ∙ paint-length _ 0 (256 * b .cluste
 
 -- Checks 1 to 5 look at the number of ready prices alone.
 still-sound : (b : Book) → fillRefusal b ≡ 0 → fillRefusal (filled b) ≡ 0
-unfolding fillRefusal firstFive filled check1 check2 check3 check4 check5
+unfolding fillRefusal firstFive firstTwo filled check1 check2 check3 check4 check5
 still-sound b e = rw (same-length b e) e
 
 entry : (b : Book) → fillRefusal b ≡ 0 → (k v : ℕ) → k < b .clusters → v < 256 → at (filledReady b) (256 * k + v) ≡ clusterPrice (b .configs) (b .symbols) k v

@@ -4,7 +4,7 @@ ghost use Prim.Native.Nat.{_≤_, _*_, max};
 ghost use lib.Dec.{eqb};
 ghost use lib.ListN.{length};
 ghost use Rattle.prices.specs.Book.{bookOf, clusterValid};
-ghost use Rattle.prices.specs.Checks.{each, symbolPrice, mapBelow, allPriced, fillRefusal, bookRefusal};
+ghost use Rattle.prices.specs.Checks.{each, symbolPrice, mapBelow, allPriced, firstTwo, fillRefusal, bookRefusal};
 
 // Check 3: the largest entry is below the number of clusters. (A maximum needs no early exit, so the loop is vectorised.)
 fn map_below(map: &[u8], clusters: u32) -> bool
@@ -75,9 +75,15 @@ fn symbols_priced(symbols: &[f32]) -> bool
     bad == 0
 }
 
-// The number of the first check among 1 to 5 that a book fails, or 0.
-pub fn check_five(clusters: u32, map: &[u8], configs: &[u8], symbols: &[f32], ready: &[f32]) -> u32
-    ensures { λ r. ⌜ r ≡ fillRefusal (bookOf clusters (now (map .entry)) (now (configs .entry)) (now (symbols .entry)) (now (ready .entry))) ⌝ }
+// The number of the first check among 1 and 2 that a book fails, or 0.
+pub fn check_lengths(
+    clusters: u32,
+    map: &[u8],
+    configs: &[u8],
+    symbols: &[f32],
+    ready: &[f32],
+) -> u32
+    ensures { λ r. ⌜ r ≡ firstTwo (bookOf clusters (now (map .entry)) (now (configs .entry)) (now (symbols .entry)) (now (ready .entry))) 0 ⌝ }
 {
     if map.len() != 14850 {
         return 1;
@@ -98,8 +104,19 @@ pub fn check_five(clusters: u32, map: &[u8], configs: &[u8], symbols: &[f32], re
     if ready.len() != 256 * n {
         return 2;
     }
+    0
+}
+
+// The number of the first check among 1 to 5 that a book fails, or 0.
+pub fn check_five(clusters: u32, map: &[u8], configs: &[u8], symbols: &[f32], ready: &[f32]) -> u32
+    ensures { λ r. ⌜ r ≡ fillRefusal (bookOf clusters (now (map .entry)) (now (configs .entry)) (now (symbols .entry)) (now (ready .entry))) ⌝ }
+{
+    let two = check_lengths(clusters, map, configs, symbols, ready);
+    if two != 0 {
+        return two;
+    }
     if map_below(map, clusters) {
-        if configs_valid(configs, n) {
+        if configs_valid(configs, clusters as usize) {
             if symbols_priced(symbols) {
                 return 0;
             }

@@ -51,10 +51,13 @@ rowKept configs symbols ready k = each 256 (λ v. sameBits (at ready (256 * k + 
 unfoldable pub check6 : Book → Bool
 check6 b = each (b .clusters) (rowKept (b .configs) (b .symbols) (b .ready))
 
--- The number of the first check among 1 to 5 that a book fails, else what comes after them.
+-- The number of the first check among 1 and 2 that a book fails, else what comes after them.
+unfoldable pub firstTwo : Book → ℕ → ℕ
+firstTwo b later = cond (check1 b) (cond (check2 b) later 2) 1
+
+-- The same for checks 1 to 5.
 unfoldable pub firstFive : Book → ℕ → ℕ
-firstFive b later =
-    cond (check1 b) (cond (check2 b) (cond (check3 b) (cond (check4 b) (cond (check5 b) later 5) 4) 3) 2) 1
+firstFive b later = firstTwo b (cond (check3 b) (cond (check4 b) (cond (check5 b) later 5) 4) 3)
 
 -- What filling the ready prices refuses: checks 1 to 5; 0 where none fails.
 unfoldable pub fillRefusal : Book → ℕ
