@@ -1,5 +1,5 @@
 -- A loop that takes a maximum.
-use Prim.Native.Nat.{ℕ, _+_, _<_, _≤_, max}
+use Prim.Native.Nat.{ℕ, _+_, max}
 use mathlib.Core.Path.{_≡_, refl, sym}
 use mathlib.Core.Bool.{Bool, true, false, _&&_}
 use native.Mathlib.Omega.{arith}

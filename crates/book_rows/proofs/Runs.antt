@@ -13,7 +13,6 @@ use Rattle.prices.specs.Checks.{each, sameBits}
 use Rattle.prices.proofs.Each.{each-run, each-same}
 use Rattle.prices.proofs.Costs.{zero-extra}
 use Rattle.book_rows.specs.Row.{headKept, runKept}
-use lib.Arith.{digits-lt}
 use lib.Dec.{ltb, eqb}
 use lib.Pow.{pow-pos, pow-mono, pow-lt, pow-add}
 use lib.Pow as Pow

@@ -1,19 +1,18 @@
 -- What the comparison of ready prices rests on.
-use Prim.Native.Nat.{ℕ, zero, suc, _+_, _-_, _*_, _<_, _≤_, max}
-use mathlib.Core.Path.{_≡_, refl, sym, ap, ap₂, _∙_, subst}
-use mathlib.Core.Bool.{Bool, true, false, not, _&&_, false≢true}
+use Prim.Native.Nat.{ℕ, _+_, _*_, _<_, _≤_}
+use mathlib.Core.Path.{_≡_, refl, sym, _∙_, subst}
+use mathlib.Core.Bool.{Bool, true, false, not, false≢true}
 use native.Mathlib.Omega.{arith}
-use native.Mathlib.Numerals.{add-one}
-use lib.Dec.{T, leb, ltb, eqb}
-use lib.Ieee.{Float, nan, inf, fin, isNan, ne, eq, fits, toBits, binary32}
+use lib.Dec.{T}
+use lib.Ieee.{Float, nan, inf, fin, isNan, ne, fits, toBits, binary32}
 use lib.Ieee.Compare.{differs-from-itself, nan-differs}
-use borrow.Author.Tests.{lt-ltb, le-ltb, ltb-true, ltb-false, eqb-true, eq-eqb, ne-eqb}
+use borrow.Author.Tests.{eq-eqb, ne-eqb}
 use mathlib.Core.List.{List}
 use Rattle.costs.specs.Cost.{cost}
 use Rattle.prices.specs.Book.{Book, clusterPrice, clusterSymbol}
 use Rattle.prices.proofs.Costs.{cluster-cost, symbol-within}
 use Rattle.book_rows.specs.Row.{Row}
-use Rattle.prices.specs.Checks.{each, sameBits}
+use Rattle.prices.specs.Checks.{sameBits}
 use Rattle.prices.proofs.Passed.{Sound, same-float}
 
 pub no-nan : (x : Float) → ne x x ≡ false → T (not (isNan x))

@@ -1,18 +1,16 @@
 -- Which reply a price call owes.
 use Prim.Native.Nat.{ℕ, _+_, _*_, _<_, _≤_}
-use mathlib.Core.Path.{_≡_, refl, sym, ap, _∙_, subst}
-use mathlib.Core.Bool.{Bool, true, false, _&&_, _||_, and-false}
+use mathlib.Core.Path.{_≡_, refl}
+use mathlib.Core.Bool.{Bool, true, false, _&&_, and-false}
 use native.Mathlib.Omega.{arith}
-use lib.Dec.{leb, ltb, eqb}
+use lib.Dec.{leb, ltb}
 use lib.Ieee.{Float}
-use lib.ListN.{length, getD}
-use borrow.Author.Tests.{eq-eqb, ne-eqb, le-leb, lt-leb, lt-ltb, le-ltb}
+use lib.ListN.{getD}
+use borrow.Author.Tests.{le-leb, lt-leb, lt-ltb, le-ltb}
 use Rattle.prices.specs.Book.{Book, at, clusterValid, clusterSymbol, clusterPrice, price}
 use Rattle.prices.specs.Checks.{symbolPrice, sameBits, check1, check2, firstTwo}
-use Rattle.price_leaves.specs.Leaf.{clusterPasses, entriesPass, inDomain, entryReply, tokenReply, pairReply, pick, pickPair}
-use Rattle.price_leaves.specs.declared.Price.{Price}
+use Rattle.price_leaves.specs.Leaf.{clusterPasses, entriesPass, inDomain, entryReply, tokenReply, pairReply, pick}
 use Rattle.price_leaves.specs.declared.Price.the-variants.{Bits, Refused}
-use Rattle.price_leaves.specs.declared.PricePair.{PricePair}
 use Rattle.price_leaves.specs.declared.PricePair.the-variants as Pair
 
 -- ---- the entries of one context

@@ -1,6 +1,6 @@
 -- What a book that passes checks 1 to 6 has, entry by entry.
-use Prim.Native.Nat.{ℕ, zero, suc, _+_, _*_, _<_, _≤_}
-use mathlib.Core.Path.{_≡_, refl, sym, ap, _∙_, subst, subst⁻¹}
+use Prim.Native.Nat.{ℕ, suc, _+_, _*_, _<_, _≤_}
+use mathlib.Core.Path.{_≡_, refl, sym, ap, _∙_}
 use mathlib.Core.Bool.{Bool, true, false, cond, _&&_}
 use mathlib.Core.List.{List}
 use native.Mathlib.Omega.{arith}
@@ -9,10 +9,10 @@ use lib.ListN.{length, getD}
 use lib.Ieee.{Float, fits, binary32, toBits, ofBits}
 use lib.Ieee.Bits.{ofBits-toBits}
 use lib.Ieee.Fits.{add-fits}
-use borrow.Author.Tests.{eqb-true, eqb-false, eq-eqb, leb-true, le-leb, ltb-true, lt-ltb}
+use borrow.Author.Tests.{eqb-true, eqb-false, leb-true, ltb-true}
 use Rattle.prices.specs.Book.{Book, at, clusterValid, clusterPrice, price}
-use Rattle.prices.specs.Checks.{each, symbolPrice, sameBits, check1, check2, check3, check4, check5, check6, mapBelow, allPriced, rowKept, firstTwo, firstFive, fillRefusal, bookRefusal}
-use Rattle.prices.proofs.Each.{both, both-of, each-below, each-all}
+use Rattle.prices.specs.Checks.{symbolPrice, sameBits, check1, check2, check3, check4, check5, check6, mapBelow, allPriced, rowKept, firstTwo, firstFive, fillRefusal, bookRefusal}
+use Rattle.prices.proofs.Each.{both, each-below}
 
 -- checks 1 to 5
 pub record Sound (b : Book) : Type 0 where

@@ -2,11 +2,11 @@
 use mathlib.Core.Path.{_≡_, sym, _∙_}
 use mathlib.Core.Bool.{true}
 use native.Mathlib.Omega.{arith}
+use borrow.Author.Needs.{needs}
 use Rattle.prices.specs.Book.{Book, bookOf}
 use Rattle.prices.specs.Checks.{check1, check2, check3, check4, check5}
 use Rattle.prices.proofs.Passed.{parts1, parts2, two, two-first}
 use Rattle.prices.proofs.Order.{third, fourth, fifth, none}
-use borrow.Author.Needs.{needs}
 use Rattle.book_checks.proofs.check_five.Statement.{statement}
 use Rattle.book_checks.proofs.check_five.Tie as tie
 

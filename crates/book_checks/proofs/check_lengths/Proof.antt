@@ -2,10 +2,10 @@
 use mathlib.Core.Path.{_≡_}
 use mathlib.Core.Bool.{true}
 use native.Mathlib.Omega.{arith}
+use borrow.Author.Needs.{needs}
 use Rattle.prices.specs.Book.{Book, bookOf}
 use Rattle.prices.specs.Checks.{check1}
 use Rattle.prices.proofs.Order.{passes1, fails1-map, fails1-none, fails1-many, passes2, fails2-configs, fails2-symbols, fails2-ready, first, second, lengths-pass}
-use borrow.Author.Needs.{needs}
 use Rattle.book_checks.proofs.check_lengths.Statement.{statement}
 use Rattle.book_checks.proofs.check_lengths.Tie as tie
 

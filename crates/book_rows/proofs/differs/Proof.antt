@@ -1,7 +1,7 @@
+-- `book_rows::differs` meets its contract. Assumes nothing.
 use denote.Floats.{passes}
 use native.Mathlib.Omega.{arith}
 use Rattle.book_rows.proofs.Steps.{nan-bits, no-nan, cost-no-nan, same-bits, other-bits}
-use borrow.Author.Needs.{needs}
 use Rattle.book_rows.proofs.differs.Statement.{statement}
 use Rattle.book_rows.proofs.differs.Tie as tie
 

@@ -1,16 +1,14 @@
 -- `book_rows::head_differs` meets its contract. Assumes nothing.
 use lib.Ieee.{ofBits}
-use Rattle.prices.proofs.Costs.{zero-sum-cost}
-use Prim.Native.Nat.{ℕ, suc, _+_, _-_, _*_, _<_, _≤_}
-use mathlib.Core.Path.{_≡_, refl, sym, ap, _∙_, subst}
-use mathlib.Core.Bool.{Bool, true, false}
+use Prim.Native.Nat.{ℕ, _-_, _≤_}
+use mathlib.Core.Path.{_≡_, refl, subst}
 use native.Mathlib.Omega.{arith}
-use lib.Dec.{T, eqb}
-use lib.ListN.{length, getD}
+use lib.Dec.{eqb}
+use borrow.Author.Needs.{needs}
+use Rattle.prices.proofs.Costs.{zero-sum-cost}
 use Rattle.prices.specs.Checks.{each}
 use Rattle.prices.proofs.Each.{each-count}
-use Rattle.book_rows.specs.Row.{headKept, runKept}
-use borrow.Author.Needs.{needs}
+use Rattle.book_rows.specs.Row.{headKept}
 use Rattle.book_rows.proofs.head_differs.Statement.{statement}
 use Rattle.book_rows.proofs.head_differs.Tie as tie
 

@@ -1,11 +1,11 @@
 -- `book_rows::rows_kept` meets its contract. Assumes nothing.
-use Prim.Native.Nat.{ℕ, _+_, _-_, _<_, _≤_}
+use Prim.Native.Nat.{ℕ, _-_, _≤_}
 use mathlib.Core.Path.{_≡_, refl, sym, _∙_, subst}
-use mathlib.Core.Bool.{true, false}
+use mathlib.Core.Bool.{true}
 use native.Mathlib.Omega.{arith}
+use borrow.Author.Needs.{needs}
 use Rattle.prices.specs.Checks.{each, rowKept}
 use Rattle.prices.proofs.Each.{each-more, each-fails}
-use borrow.Author.Needs.{needs}
 use Rattle.book_rows.proofs.rows_kept.Statement.{statement}
 use Rattle.book_rows.proofs.rows_kept.Tie as tie
 

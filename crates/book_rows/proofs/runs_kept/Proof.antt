@@ -1,12 +1,9 @@
 -- `book_rows::runs_kept` meets its contract: the values of a run have one price. Assumes nothing.
-use Prim.Native.Nat.{ℕ, suc, _+_, _-_, _*_, _^_, _<_, _≤_}
+use Prim.Native.Nat.{ℕ, _+_, _-_, _*_, _^_, _≤_}
 use mathlib.Core.Path.{_≡_, sym, ap, _∙_, subst, subst⁻¹, subst₂}
-use mathlib.Core.Bool.{Bool, true, false, _&&_}
-use mathlib.Core.List.{List}
 use native.Mathlib.Omega.{arith}
 use native.Mathlib.Nat.{le-of-eq, lt-of-lt-of-le}
-use lib.Dec.{T, eqb}
-use lib.ListN.{length, getD}
+use lib.Dec.{eqb}
 use lib.Ieee.{Float}
 use lib.Pow.{pow-pos, pow-mono}
 use Rattle.packing.specs.Hybrid.{topBit}
@@ -16,7 +13,6 @@ use Rattle.prices.specs.Checks.{each, sameBits, rowKept}
 use Rattle.book_rows.specs.Row.{headKept, runKept}
 use Rattle.book_rows.proofs.Steps.{row-cost}
 use Rattle.book_rows.proofs.Runs.{Begin, power-begins, next, stays, head-all, run-all, config-is}
-use borrow.Author.Needs.{needs}
 use Rattle.book_rows.proofs.runs_kept.Statement.{statement}
 use Rattle.book_rows.proofs.runs_kept.Tie as tie
 

@@ -1,16 +1,13 @@
-use Rattle.book_rows.proofs.Steps.{row-cost}
-use Prim.Native.Nat.{ℕ, suc, _+_, _-_, _*_, _<_, _≤_, max}
-use mathlib.Core.Path.{_≡_, refl, sym, ap, _∙_, subst}
-use mathlib.Core.Bool.{Bool, true, false}
+-- `book_rows::values_kept` meets its contract. Assumes nothing.
+use Prim.Native.Nat.{ℕ, _+_, _-_, _*_, _≤_}
+use mathlib.Core.Path.{_≡_, refl, sym, subst}
 use native.Mathlib.Omega.{arith}
-use lib.Dec.{T, leb, ltb, eqb}
-use lib.ListN.{length, getD}
-use borrow.Author.Tests.{lt-ltb, le-ltb, eq-eqb, ne-eqb}
-use Rattle.prices.specs.Book.{at, clusterValid, clusterPrice}
-use Rattle.prices.specs.Checks.{each, symbolPrice, mapBelow, allPriced, sameBits, rowKept}
-use Rattle.prices.proofs.Each.{each-below, each-all, each-more, each-fails, each-count}
-use Rattle.prices.proofs.Costs.{cluster-cost, symbol-within}
+use lib.Dec.{eqb}
 use borrow.Author.Needs.{needs}
+use Rattle.book_rows.proofs.Steps.{row-cost}
+use Rattle.prices.specs.Book.{at, clusterPrice}
+use Rattle.prices.specs.Checks.{each, sameBits, rowKept}
+use Rattle.prices.proofs.Each.{each-count}
 use Rattle.book_rows.proofs.values_kept.Statement.{statement}
 use Rattle.book_rows.proofs.values_kept.Tie as tie
 

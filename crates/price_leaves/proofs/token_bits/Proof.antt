@@ -1,9 +1,8 @@
 -- `price_leaves::token_bits` meets its contract. Assumes nothing.
-use mathlib.Core.Path.{_≡_, sym, _∙_}
-use native.Mathlib.Omega.{arith}
+use mathlib.Core.Path.{sym, _∙_}
+use borrow.Author.Needs.{needs}
 use Rattle.prices.proofs.Passed.{two}
 use Rattle.price_leaves.proofs.Replies.{no-context, no-value, no-lengths, entries}
-use borrow.Author.Needs.{needs}
 use Rattle.price_leaves.proofs.token_bits.Statement.{statement}
 use Rattle.price_leaves.proofs.token_bits.Tie as tie
 

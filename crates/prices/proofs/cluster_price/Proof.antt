@@ -1,14 +1,14 @@
 -- `prices::cluster_price` meets its contract. Assumes nothing.
 use Prim.Native.Nat.{ℕ, _+_, _*_, _^_, _<_, _≤_}
-use mathlib.Core.Path.{_≡_, ap₂}
+use mathlib.Core.Path.{ap₂}
 use native.Mathlib.Omega.{arith}
 use lib.Dec.{T, le→leb}
 use lib.IntN.{pos}
 use lib.ListN.{getD}
 use lib.Ieee.{nan, add, ofInt, inFloat, binary32}
+use borrow.Author.Needs.{needs}
 use Rattle.prices.specs.Book.{clusterPrice}
 use Rattle.prices.proofs.Costs.{symbol-within, extra-few}
-use borrow.Author.Needs.{needs}
 use Rattle.prices.proofs.cluster_price.Statement.{statement}
 use Rattle.prices.proofs.cluster_price.Tie as tie
 
