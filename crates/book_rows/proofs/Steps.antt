@@ -1,17 +1,18 @@
 -- What the comparison of ready prices rests on.
 use Prim.Native.Nat.{ℕ, _+_, _*_, _<_, _≤_}
-use mathlib.Core.Path.{_≡_, refl, sym, _∙_, subst}
-use mathlib.Core.Bool.{Bool, true, false, not, false≢true}
+use mathlib.Core.Path.{_≡_, refl, sym, _∙_, subst, subst⁻¹}
+use mathlib.Core.Bool.{Bool, true, false, not, false≢true, and-false}
 use native.Mathlib.Omega.{arith}
 use lib.Dec.{T}
 use lib.Ieee.{Float, nan, inf, fin, isNan, ne, fits, toBits, binary32}
+use lib.Ieee.Bits.{is-false}
 use lib.Ieee.Compare.{differs-from-itself, nan-differs}
 use borrow.Author.Tests.{eq-eqb, ne-eqb}
 use mathlib.Core.List.{List}
 use Rattle.costs.specs.Cost.{cost}
 use Rattle.prices.specs.Book.{Book, clusterPrice, clusterSymbol}
 use Rattle.prices.proofs.Costs.{cluster-cost, symbol-within}
-use Rattle.book_rows.specs.Row.{Row}
+use Rattle.book_rows.specs.Row.{Row, twin}
 use Rattle.prices.specs.Checks.{sameBits}
 use Rattle.prices.proofs.Passed.{Sound, same-float}
 
@@ -60,3 +61,28 @@ sound-row b p k h =
       valid = p .valid k h;
       prices = λ i q. p .priced (128 * k + i) (omega arith);
     }
+
+-- ---- two ready prices
+
+pub nan-left : (x y : Float) → ne x x ≡ true → twin x y ≡ false
+unfolding twin isNan
+nan-left x y e = subst⁻¹ (λ (z : Float). twin z y ≡ false) (differs-from-itself x (subst T (sym e) tt)) refl
+
+pub nan-right : (x y : Float) → ne y y ≡ true → twin x y ≡ false
+unfolding twin isNan
+nan-right x y e = subst⁻¹ (λ (z : Float). twin x z ≡ false) (differs-from-itself y (subst T (sym e) tt)) (simp and-false)
+
+twin-clear : (x y : Float) → T (not (isNan x)) → T (not (isNan y)) → twin x y ≡ sameBits x y
+unfolding twin
+twin-clear x y p q = simp (is-false (isNan x) p, is-false (isNan y) q)
+
+pub twin-bits : (x y : Float) → ne x x ≡ false → ne y y ≡ false → twin x y ≡ sameBits x y
+twin-bits x y p q = twin-clear x y (no-nan x p) (no-nan y q)
+
+-- beside a cost the NaNs make no difference
+pub twin-cost : (x y : Float) → T (cost y) → T (fits binary32 x) → T (fits binary32 y) → twin x y ≡ sameBits x y
+twin-cost x y h fx fy = go (ne x x) refl
+  where
+    go : (b : Bool) → ne x x ≡ b → twin x y ≡ sameBits x y
+    go true e = nan-left x y e ∙ sym (nan-bits x y e h fx fy)
+    go false e = twin-clear x y (no-nan x e) (cost-no-nan y h)

@@ -9,7 +9,7 @@ use native.Mathlib.Nat.{zero-mul, zero-add, sub-zero, le-trans, mul-le-mul-right
 use lib.Dec.{T, ltb, le→leb, lit<, lit≤}
 use lib.IntN.{ℤ, pos}
 use lib.ListN.{getD}
-use lib.Ieee.{Float, nan, inf, fin, add, sum, round, ofInt, le, lt, eq, up, down, binary32}
+use lib.Ieee.{Float, nan, inf, fin, add, sum, round, ofInt, inFloat, le, lt, eq, up, down, binary32}
 use lib.Ieee.Fits.{up-pos}
 use lib.Ieee.Scale.{finite}
 use borrow.Author.Tests.{lt-ltb, le-ltb, ne-eqb}
@@ -117,6 +117,11 @@ module _ (n : ℕ) (few : n ≤ 17) where
       (subst⁻¹ (λ (y : Float). T (finite y)) (negative-zero-add (z .0) (ofInt binary32 (pos n)) (extra-cost n))
       (finite-sum (fin false 0 (z .0)) (zero-capped (z .0)) tt)))
       (of-symbol x h)
+
+-- a number of extra bits is a float
+pub extra-exact : (n : ℕ) → n ≤ 16 → T (inFloat binary32 (pos n))
+unfolding inFloat
+extra-exact n h = le→leb n (2 ^ 24) (omega arith)
 
 pub zero-extra : ofInt binary32 (pos 0) ≡ fin false 0 (pos 0)
 unfolding ofInt
