@@ -1,30 +1,20 @@
--- `book_checks::head_differs` meets its contract. Assumes nothing.
-use lib.Ieee.{ofBits}
-use Rattle.prices.proofs.Costs.{zero-sum-cost}
-use Prim.Native.Nat.{ℕ, suc, _+_, _-_, _*_, _<_, _≤_}
-use mathlib.Core.Path.{_≡_, refl, sym, ap, _∙_, subst}
-use mathlib.Core.Bool.{Bool, true, false}
+-- `book_rows::line_differs` meets its contract. Assumes nothing.
+use Prim.Native.Nat.{ℕ, _-_, _≤_}
+use mathlib.Core.Path.{_≡_, refl, subst}
 use native.Mathlib.Omega.{arith}
-use lib.Dec.{T, eqb}
-use lib.ListN.{length, getD}
+use lib.Dec.{eqb}
+use borrow.Author.Needs.{needs}
 use Rattle.prices.specs.Checks.{each}
 use Rattle.prices.proofs.Each.{each-count}
-use Rattle.book_checks.specs.Row.{headKept, runKept}
-use borrow.Author.Needs.{needs}
-use Rattle.book_checks.proofs.head_differs.Statement.{statement}
-use Rattle.book_checks.proofs.head_differs.Tie as tie
+use Rattle.book_rows.specs.Row.{lineKept}
+use Rattle.book_rows.proofs.line_differs.Statement.{statement}
+use Rattle.book_rows.proofs.line_differs.Tie as tie
 
 abbrev Inv-loop : tie.InvT-loop
-Inv-loop symbols ready cluster count from to bad₀ i₀ bad i = (i ≤ count) × (bad ≤ i) × (each i (headKept symbols ready cluster) ≡ eqb bad 0)
+Inv-loop symbols ready from to count extra bad₀ i₀ bad i = (i ≤ count) × (bad ≤ i) × (each i (lineKept symbols ready from to extra) ≡ eqb bad 0)
 
 abbrev μ-loop : tie.MeasureT-loop
-μ-loop symbols ready cluster count from to bad₀ i₀ bad i = count - i
-
-mul-from : tie.Need-mul-from Inv-loop μ-loop
-mul-from c = search needs
-
-mul-to : tie.Need-mul-to Inv-loop μ-loop
-mul-to c = search needs
+μ-loop symbols ready from to count extra bad₀ i₀ bad i = count - i
 
 loop-holds : tie.Need-loop-holds Inv-loop μ-loop
 unfolding each
@@ -49,10 +39,9 @@ shared-slice-read-differs : tie.Need-shared-slice-read-differs Inv-loop μ-loop
 shared-slice-read-differs c = search needs
 
 differs-requires : tie.Need-differs-requires Inv-loop μ-loop
-unfolding ofBits
 differs-requires c κs =
     let start = c .before .before .before .before .before .before in
-    zero-sum-cost _ (start .pre .1 .1 .1 (c .before .before .before .loop .i) (omega (arith, start .pre .0, c .before .before .loop-test .taken)))
+    start .pre .1 .1 .1 (c .before .before .before .loop .i) (c .before .before .loop-test .taken)
 
 add-bad : tie.Need-add-bad Inv-loop μ-loop
 add-bad c = search needs
@@ -64,28 +53,26 @@ loop-less : tie.Need-loop-less Inv-loop μ-loop
 loop-less c = search needs
 
 loop-again : tie.Need-loop-again Inv-loop μ-loop
-unfolding headKept ofBits
+unfolding lineKept
 loop-again c =
     let loop = c .before .before .before .before .loop in
     let a = c .before .before .before .before .before .before .before .args in (
       omega arith,
       omega (arith, c .differs .ensures .1),
-      each-count (headKept (a .symbols .now) (a .ready .now) (a .cluster)) (loop .i) (loop .bad) (c .differs .result) (loop .inv .2) (c .differs .ensures .0),
+      each-count (lineKept (a .symbols .now) (a .ready .now) (a .from) (a .to) (a .extra)) (loop .i) (loop .bad) (c .differs .result) (loop .inv .2) (c .differs .ensures .0),
     )
 
 returns : tie.Need-returns Inv-loop μ-loop
 returns c =
     let a = c .before .before .before .before .args in
-    (subst (λ (n : ℕ). each n (headKept (a .symbols .now) (a .ready .now) (a .cluster)) ≡ eqb (c .before .loop .bad) 0) (omega arith) (c .before .loop .inv .2), omega arith)
+    (subst (λ (n : ℕ). each n (lineKept (a .symbols .now) (a .ready .now) (a .from) (a .to) (a .extra)) ≡ eqb (c .before .loop .bad) 0) (omega arith) (c .before .loop .inv .2), omega arith)
 
-pub head-differs-spec : {M : Type 1} → statement M
-head-differs-spec =
+pub line-differs-spec : {M : Type 1} → statement M
+line-differs-spec =
     tie.close
     (tie.spec
     Inv-loop
     μ-loop
-    mul-from
-    mul-to
     loop-holds
     add-price
     mul-price

@@ -1,9 +1,9 @@
+-- `book_rows::differs` meets its contract. Assumes nothing.
 use denote.Floats.{passes}
 use native.Mathlib.Omega.{arith}
-use Rattle.book_checks.proofs.Steps.{nan-bits, no-nan, cost-no-nan, same-bits, other-bits}
-use borrow.Author.Needs.{needs}
-use Rattle.book_checks.proofs.differs.Statement.{statement}
-use Rattle.book_checks.proofs.differs.Tie as tie
+use Rattle.book_rows.proofs.Steps.{nan-bits, no-nan, cost-no-nan, same-bits, other-bits}
+use Rattle.book_rows.proofs.differs.Statement.{statement}
+use Rattle.book_rows.proofs.differs.Tie as tie
 
 returns : tie.Need-returns
 returns c = (nan-bits _ _ (c .if1 .taken) (c .before .pre) (passes _ (c .before .good .0 .1)) (passes _ (c .before .good .1 .0 .1)), omega arith)

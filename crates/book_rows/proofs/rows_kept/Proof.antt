@@ -1,13 +1,13 @@
--- `book_checks::rows_kept` meets its contract. Assumes nothing.
-use Prim.Native.Nat.{ℕ, _+_, _-_, _<_, _≤_}
+-- `book_rows::rows_kept` meets its contract. Assumes nothing.
+use Prim.Native.Nat.{ℕ, _-_, _≤_}
 use mathlib.Core.Path.{_≡_, refl, sym, _∙_, subst}
-use mathlib.Core.Bool.{true, false}
+use mathlib.Core.Bool.{true}
 use native.Mathlib.Omega.{arith}
+use borrow.Author.Needs.{needs}
 use Rattle.prices.specs.Checks.{each, rowKept}
 use Rattle.prices.proofs.Each.{each-more, each-fails}
-use borrow.Author.Needs.{needs}
-use Rattle.book_checks.proofs.rows_kept.Statement.{statement}
-use Rattle.book_checks.proofs.rows_kept.Tie as tie
+use Rattle.book_rows.proofs.rows_kept.Statement.{statement}
+use Rattle.book_rows.proofs.rows_kept.Tie as tie
 
 abbrev Inv-loop : tie.InvT-loop
 Inv-loop clusters configs symbols ready k₀ k = (k ≤ clusters) × (each k (rowKept configs symbols ready) ≡ true)

@@ -1,16 +1,14 @@
--- `book_checks::run_differs` meets its contract. Assumes nothing.
-use Prim.Native.Nat.{ℕ, suc, _+_, _-_, _*_, _<_, _≤_}
-use mathlib.Core.Path.{_≡_, refl, sym, ap, _∙_, subst}
-use mathlib.Core.Bool.{Bool, true, false}
+-- `book_rows::run_differs` meets its contract. Assumes nothing.
+use Prim.Native.Nat.{ℕ, _-_, _≤_}
+use mathlib.Core.Path.{_≡_, refl, subst}
 use native.Mathlib.Omega.{arith}
-use lib.Dec.{T, eqb}
-use lib.ListN.{length, getD}
+use lib.Dec.{eqb}
+use borrow.Author.Needs.{needs}
 use Rattle.prices.specs.Checks.{each}
 use Rattle.prices.proofs.Each.{each-count}
-use Rattle.book_checks.specs.Row.{headKept, runKept}
-use borrow.Author.Needs.{needs}
-use Rattle.book_checks.proofs.run_differs.Statement.{statement}
-use Rattle.book_checks.proofs.run_differs.Tie as tie
+use Rattle.book_rows.specs.Row.{runKept}
+use Rattle.book_rows.proofs.run_differs.Statement.{statement}
+use Rattle.book_rows.proofs.run_differs.Tie as tie
 
 abbrev Inv-loop : tie.InvT-loop
 Inv-loop ready from count price bad₀ i₀ bad i = (i ≤ count) × (bad ≤ i) × (each i (runKept ready from price) ≡ eqb bad 0)
