@@ -1,0 +1,116 @@
+-- The examples. A row states what a reading of document 01 answers to a problem.
+use Prim.Native.Nat.{ℕ}
+use mathlib.Core.Bool.{Bool, true, false}
+use mathlib.Core.List.{List, [], _∷_, _++_}
+use lib.IntN.{ℤ, pos, negsuc}
+use lib.ListN.{replicate}
+use lib.Ieee.{Float, fin}
+use Rattle.block.specs.Block.{Block}
+use Rattle.block.specs.Cost.{localCost}
+use Rattle.block.specs.Band.{problemOf, halfWidth}
+use Rattle.least_cost.specs.Search.{Problem}
+use Rattle.weights.specs.declared.Window.{Window}
+use Rattle.prices.specs.Book.{Book}
+use Rattle.worked.specs.Cases.{Answer, answered, answerOf, whole, quarter, half, never, window, flat, apart, blockWith, zeros}
+use Rattle.worked.specs.Errors.{countHeld, answerZero, alwaysCharged, prevZero}
+
+pub data Row : Type 0 where
+  row : (reading : Problem → Answer) (p : Problem) (a : Answer) → Row
+
+-- The row with what the reading gives. A row holds where that changes nothing.
+unfoldable pub computed : Row → Row
+computed (row f p a) = row f p (f p)
+
+-- Document 01: one block, all zero, ideals zero, every symbol price 1, split 4,2,0. The cost is lambda, here 3. (A window of 3; `Zeros` has document 01's.)
+unfoldable pub allZero : Row
+allZero = row answerOf (problemOf halfWidth (window 3 2) (flat (whole 1)) zeros) (answered (whole 3) 0 (pos 0 ∷ pos 0 ∷ pos 0 ∷ []))
+
+-- Three levels of 1 where the ideals are 0: 0 everywhere is the cheapest. With half-width 1 at least one nonzero level follows the first position; none follows the last.
+unfoldable pub ones : ℕ → Block
+ones n = blockWith (whole 3) [] (replicate n (pos 1))
+
+unfoldable pub outside : Row
+outside = row answerOf (problemOf 1 (window 3 0) (flat (whole 1)) (ones 3)) (answered (whole 10) 1 (pos 0 ∷ pos 1 ∷ pos 0 ∷ []))
+
+unfoldable pub inside : Row
+inside = row answerOf (problemOf 2 (window 3 0) (flat (whole 1)) (ones 3)) (answered (whole 3) 0 (pos 0 ∷ pos 0 ∷ pos 0 ∷ []))
+
+-- Rounding: a level of 4 and an ideal of 3 before 32 tokens at 2^20. The local cost of 3 is below that of 4, the sums with the tail are equal, and 4 stays.
+unfoldable pub long : ℕ → Block
+long n = blockWith (fin false 1 (pos 20)) (replicate n (whole 3)) (replicate n (pos 4) ++ replicate 32 (pos 1))
+
+unfoldable pub rounded : Row
+rounded = row answerOf (problemOf halfWidth (window 1 0) (flat (whole 1)) (long 1)) (answered (fin false 37 (pos 20)) 33 (pos 4 ∷ []))
+
+-- ---- document 01's plausible errors, but summing forward: first what is right, then what the error gives
+
+-- Seven levels of 1 where the ideals are 0: the whole count may fall by 7, not by 6 only.
+unfoldable pub fallsBySeven : Row
+fallsBySeven = row answerOf (problemOf halfWidth (window 7 0) (flat (whole 1)) (ones 7)) (answered (whole 3) 0 (replicate 7 (pos 0)))
+
+unfoldable pub fallsBySix : Row
+fallsBySix = row answerOf (countHeld halfWidth (window 7 0) (flat (whole 1)) (ones 7)) (answered (whole 7) 1 (pos 1 ∷ replicate 6 (pos 0)))
+
+-- Two levels of 1 with ideals of 1/2 before a third; 2 is the cheapest count. Which of the first two stays makes no difference in cost: the first does, for a nonzero level
+-- stays ahead of zero.
+unfoldable pub halves : Problem
+halves =
+    problemOf halfWidth (window 2 0) (apart (1 ∷ []) (whole 1) (whole 8 ∷ whole 8 ∷ whole 0 ∷ replicate 125 (whole 8)))
+    (blockWith (whole 3) (half ∷ half ∷ []) (pos 1 ∷ pos 1 ∷ pos 1 ∷ []))
+
+unfoldable pub nonzeroStays : Row
+nonzeroStays = row answerOf halves (answered (fin false 19 (negsuc 0)) 2 (pos 1 ∷ pos 0 ∷ []))
+
+unfoldable pub zeroStays : Row
+zeroStays = row answerZero halves (answered (fin false 19 (negsuc 0)) 2 (pos 0 ∷ pos 1 ∷ []))
+
+-- All zero again: three tokens at 3 too many. (`allZero` is right.)
+unfoldable pub threeTokens : Row
+threeTokens = row answerOf (alwaysCharged halfWidth (window 3 2) (flat (whole 1)) zeros) (answered (whole 12) 0 (pos 0 ∷ pos 0 ∷ pos 0 ∷ []))
+
+-- A level of 1 with an ideal of 1. With `prev` 1 at the first position its token costs 1, with 0 it costs 1/4: so it is dropped, and kept in error.
+unfoldable pub lone : Problem
+lone =
+    problemOf halfWidth (window 1 0) (apart (replicate 1111 0 ++ (1 ∷ [])) quarter (replicate 128 (whole 1)))
+    (blockWith (whole 3) (whole 1 ∷ []) (pos 1 ∷ []))
+
+unfoldable pub prevOne : Row
+prevOne = row answerOf lone (answered (fin false 7 (negsuc 1)) 0 (pos 0 ∷ []))
+
+unfoldable pub prevNone : Row
+prevNone = row answerOf (prevZero lone) (answered (fin false 3 (negsuc 0)) 1 (pos 1 ∷ []))
+
+unfoldable pub rows : List Row
+rows =
+    allZero ∷ outside ∷ inside ∷ rounded ∷ fallsBySeven ∷ fallsBySix ∷ nonzeroStays ∷ zeroStays ∷ threeTokens ∷ prevOne ∷ prevNone ∷ []
+
+-- ---- costs of choices
+
+-- Summing the window forward: three levels of 4 with ideals of 3 before 32 tokens at 2^20. From the end, each local cost's fraction is lost in the tail, and the fours cost
+-- what the threes do; from the front the fractions add up first.
+unfoldable pub threeLong : Problem
+threeLong = problemOf halfWidth (window 3 0) (flat (whole 1)) (long 3)
+
+unfoldable pub foursAndThrees : List (List ℤ)
+foursAndThrees = replicate 3 (pos 4) ∷ replicate 3 (pos 3) ∷ []
+
+unfoldable pub backward : List Float
+backward = fin false 39 (pos 20) ∷ fin false 39 (pos 20) ∷ []
+
+unfoldable pub forward : List Float
+forward = fin false 10223617 (pos 2) ∷ fin false 39 (pos 20) ∷ []
+
+-- The local costs of the levels 4 and 3 at the first position, 33 remaining.
+unfoldable pub localCosts : List Float
+localCosts = localCost (flat (whole 1)) (long 1) 0 33 0 (pos 4) ∷ localCost (flat (whole 1)) (long 1) 0 33 0 (pos 3) ∷ []
+
+-- ---- every price infinite, all zero
+
+-- every choice for a window of two restoring positions
+unfoldable pub choices : List (List ℤ)
+choices =
+    (pos 0 ∷ pos 0 ∷ []) ∷ (pos 0 ∷ negsuc 0 ∷ []) ∷ (pos 0 ∷ pos 1 ∷ []) ∷ (negsuc 0 ∷ pos 0 ∷ []) ∷ (negsuc 0 ∷ negsuc 0 ∷ []) ∷ (negsuc 0 ∷ pos 1 ∷ [])
+    ∷ (pos 1 ∷ pos 0 ∷ [])
+    ∷ (pos 1 ∷ negsuc 0 ∷ [])
+    ∷ (pos 1 ∷ pos 1 ∷ [])
+    ∷ []
