@@ -1,13 +1,15 @@
--- The examples. A row states what a reading of document 01 answers to a problem.
+-- The examples. A row states what a reading of document 01 answers to a problem. Definitions only.
 use Prim.Native.Nat.{ℕ}
-use mathlib.Core.Bool.{Bool, true, false}
+use mathlib.Core.Bool.{Bool, true, false, not, _&&_}
 use mathlib.Core.List.{List, [], _∷_, _++_}
+use lib.Dec.{eqb}
 use lib.IntN.{ℤ, pos, negsuc}
 use lib.ListN.{replicate}
-use lib.Ieee.{Float, fin}
+use lib.Ieee.{Float, fin, eq}
 use Rattle.block.specs.Block.{Block}
 use Rattle.block.specs.Cost.{localCost}
 use Rattle.block.specs.Band.{problemOf, halfWidth}
+use Rattle.candidates.specs.Candidates.{eqZ}
 use Rattle.least_cost.specs.Search.{Problem}
 use Rattle.weights.specs.declared.Window.{Window}
 use Rattle.prices.specs.Book.{Book}
@@ -21,19 +23,32 @@ pub data Row : Type 0 where
 unfoldable pub computed : Row → Row
 computed (row f p a) = row f p (f p)
 
+-- two rows state different answers
+unfoldable pub sameLevels : List ℤ → List ℤ → Bool
+sameLevels [] [] = true
+sameLevels [] (d ∷ ds) = false
+sameLevels (c ∷ cs) [] = false
+sameLevels (c ∷ cs) (d ∷ ds) = eqZ c d && sameLevels cs ds
+
+unfoldable pub differ : Row → Row → Bool
+differ (row f p a) (row g q b) = not (eq (a .cost) (b .cost) && eqb (a .count) (b .count) && sameLevels (a .levels) (b .levels))
+
 -- Document 01: one block, all zero, ideals zero, every symbol price 1, split 4,2,0. The cost is lambda, here 3. (A window of 3; `Zeros` has document 01's.)
 unfoldable pub allZero : Row
 allZero = row answerOf (problemOf halfWidth (window 3 2) (flat (whole 1)) zeros) (answered (whole 3) 0 (pos 0 ∷ pos 0 ∷ pos 0 ∷ []))
 
--- Three levels of 1 where the ideals are 0: 0 everywhere is the cheapest. With half-width 1 at least one nonzero level follows the first position; none follows the last.
+-- The band: three levels of 1 where the ideals are 0. Zeros are the cheapest, but with half-width 1 a nonzero level has to follow the first position.
 unfoldable pub ones : ℕ → Block
 ones n = blockWith (whole 3) [] (replicate n (pos 1))
 
+unfoldable pub threeOnes : ℕ → Problem
+threeOnes w = problemOf w (window 3 0) (flat (whole 1)) (ones 3)
+
 unfoldable pub outside : Row
-outside = row answerOf (problemOf 1 (window 3 0) (flat (whole 1)) (ones 3)) (answered (whole 10) 1 (pos 0 ∷ pos 1 ∷ pos 0 ∷ []))
+outside = row answerOf (threeOnes 1) (answered (whole 10) 1 (pos 0 ∷ pos 1 ∷ pos 0 ∷ []))
 
 unfoldable pub inside : Row
-inside = row answerOf (problemOf 2 (window 3 0) (flat (whole 1)) (ones 3)) (answered (whole 3) 0 (pos 0 ∷ pos 0 ∷ pos 0 ∷ []))
+inside = row answerOf (threeOnes 2) (answered (whole 3) 0 (pos 0 ∷ pos 0 ∷ pos 0 ∷ []))
 
 -- Rounding: a level of 4 and an ideal of 3 before 32 tokens at 2^20. The local cost of 3 is below that of 4, the sums with the tail are equal, and 4 stays.
 unfoldable pub long : ℕ → Block
@@ -44,15 +59,14 @@ rounded = row answerOf (problemOf halfWidth (window 1 0) (flat (whole 1)) (long 
 
 -- ---- document 01's plausible errors, but summing forward: first what is right, then what the error gives
 
--- Seven levels of 1 where the ideals are 0: the whole count may fall by 7, not by 6 only.
+-- Holding the whole count within 6. Seven levels of 1 where the ideals are 0: all may be dropped.
 unfoldable pub fallsBySeven : Row
 fallsBySeven = row answerOf (problemOf halfWidth (window 7 0) (flat (whole 1)) (ones 7)) (answered (whole 3) 0 (replicate 7 (pos 0)))
 
 unfoldable pub fallsBySix : Row
 fallsBySix = row answerOf (countHeld halfWidth (window 7 0) (flat (whole 1)) (ones 7)) (answered (whole 7) 1 (pos 1 ∷ replicate 6 (pos 0)))
 
--- Two levels of 1 with ideals of 1/2 before a third; 2 is the cheapest count. Which of the first two stays makes no difference in cost: the first does, for a nonzero level
--- stays ahead of zero.
+-- Letting zero win a tie. Two levels of 1 with ideals of 1/2 before a third, 2 being the cheapest count: which of the first two stays makes no difference in cost.
 unfoldable pub halves : Problem
 halves =
     problemOf halfWidth (window 2 0) (apart (1 ∷ []) (whole 1) (whole 8 ∷ whole 8 ∷ whole 0 ∷ replicate 125 (whole 8)))
@@ -64,11 +78,11 @@ nonzeroStays = row answerOf halves (answered (fin false 19 (negsuc 0)) 2 (pos 1 
 unfoldable pub zeroStays : Row
 zeroStays = row answerZero halves (answered (fin false 19 (negsuc 0)) 2 (pos 0 ∷ pos 1 ∷ []))
 
--- All zero again: three tokens at 3 too many. (`allZero` is right.)
+-- Charging a token when nothing remains. All zero again (`allZero` is right): three tokens at 3 too many.
 unfoldable pub threeTokens : Row
 threeTokens = row answerOf (alwaysCharged halfWidth (window 3 2) (flat (whole 1)) zeros) (answered (whole 12) 0 (pos 0 ∷ pos 0 ∷ pos 0 ∷ []))
 
--- A level of 1 with an ideal of 1. With `prev` 1 at the first position its token costs 1, with 0 it costs 1/4: so it is dropped, and kept in error.
+-- Taking `prev` as 0 at the first position. A level of 1 with an ideal of 1: its token costs 1 with `prev` 1, 1/4 with 0, so that it is dropped, and would be kept.
 unfoldable pub lone : Problem
 lone =
     problemOf halfWidth (window 1 0) (apart (replicate 1111 0 ++ (1 ∷ [])) quarter (replicate 128 (whole 1)))
@@ -86,7 +100,7 @@ rows =
 
 -- ---- costs of choices
 
--- Summing the window forward: three levels of 4 with ideals of 3 before 32 tokens at 2^20. From the end, each local cost's fraction is lost in the tail, and the fours cost
+-- Summing the window forward. Three levels of 4 with ideals of 3 before 32 tokens at 2^20. From the end, each local cost's fraction is lost in the tail, and the fours cost
 -- what the threes do; from the front the fractions add up first.
 unfoldable pub threeLong : Problem
 threeLong = problemOf halfWidth (window 3 0) (flat (whole 1)) (long 3)
