@@ -1,12 +1,11 @@
 -- Sums and ties in small cases, by computing them. Assumes nothing.
-use Prim.Native.Nat.{ℕ}
 use mathlib.Core.Path.{_≡_, refl}
 use mathlib.Core.Bool.{false}
 use mathlib.Core.List.{List, [], _∷_}
 use lib.IntN.{ℤ, pos}
 use lib.Ieee.{Float, fin, binary32, add, lt, ofInt}
 use Rattle.least_cost.specs.Position.{Position, Tail, nz, within, allowed}
-use Rattle.least_cost.specs.Choice.{remaining, costOf}
+use Rattle.least_cost.specs.Choice.{costOf}
 use Rattle.least_cost.specs.Search.{least, holder, nonzeros, hasZero, trial, step, best, pick, walk}
 
 -- a position whose band excludes nothing, with the given candidates and local costs

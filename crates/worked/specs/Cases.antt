@@ -1,17 +1,14 @@
 -- Books, blocks and windows that are small enough to be worked through, and a search's answer as one record. Definitions only.
-use Prim.Native.Nat.{ℕ, zero, suc, _-_}
+use Prim.Native.Nat.{ℕ, zero, _-_}
 use mathlib.Core.Bool.{false}
-use mathlib.Core.List.{List, [], _∷_, _++_}
+use mathlib.Core.List.{List, [], _∷_, _++_, map}
 use lib.IntN.{ℤ, pos, negsuc}
 use lib.ListN.{length, replicate}
 use lib.Ieee.{Float, inf, fin, ofInt, binary32}
 use Rattle.bias.specs.Level.{numerator0145}
-use Rattle.bias.specs.declared.DequantBias.{DequantBias}
 use Rattle.block.specs.Block.{Block, blockOf}
-use Rattle.block.specs.declared.Shape.{Shape}
 use Rattle.least_cost.specs.Search.{Problem, upFrom, leastTotal, leastCount, leastLevels}
-use Rattle.prices.specs.Book.{Book, bookOf}
-use Rattle.weights.specs.declared.Settings.{Settings}
+use Rattle.prices.specs.Book.{Book, bookOf, clusterPrice}
 use Rattle.weights.specs.declared.Window.{Window}
 
 -- ---- what is answered: the least cost, the count and the levels of the window
@@ -52,9 +49,14 @@ window n m = record { length = n; restoring = m }
 unfoldable pub flat : Float → Book
 flat x = bookOf 1 [] (4 ∷ 2 ∷ 0 ∷ []) (replicate 128 x) []
 
--- the contexts of `map` that say 1 have the prices of `other`, all others price x for every symbol
+-- the same as a book that passes document 01's checks
+unfoldable pub checked : Float → Book
+checked x =
+    bookOf 1 (replicate 14850 0) (4 ∷ 2 ∷ 0 ∷ []) (replicate 128 x) (map (clusterPrice (4 ∷ 2 ∷ 0 ∷ []) (replicate 128 x) 0) (upFrom 0 256))
+
+-- the contexts of `clusters` that say 1 have the prices of `other`, all others price x for every symbol
 unfoldable pub apart : List ℕ → Float → List Float → Book
-apart map x other = bookOf 2 map (4 ∷ 2 ∷ 0 ∷ 4 ∷ 2 ∷ 0 ∷ []) (replicate 128 x ++ other) []
+apart clusters x other = bookOf 2 clusters (4 ∷ 2 ∷ 0 ∷ 4 ∷ 2 ∷ 0 ∷ []) (replicate 128 x ++ other) []
 
 -- ---- blocks
 

@@ -11,9 +11,7 @@ use Rattle.block.specs.Cost.{localCost}
 use Rattle.block.specs.Band.{problemOf, halfWidth}
 use Rattle.candidates.specs.Candidates.{eqZ}
 use Rattle.least_cost.specs.Search.{Problem}
-use Rattle.weights.specs.declared.Window.{Window}
-use Rattle.prices.specs.Book.{Book}
-use Rattle.worked.specs.Cases.{Answer, answered, answerOf, whole, quarter, half, never, window, flat, apart, blockWith, zeros}
+use Rattle.worked.specs.Cases.{Answer, answered, answerOf, whole, quarter, half, window, flat, apart, blockWith, zeros}
 use Rattle.worked.specs.Errors.{countHeld, answerZero, alwaysCharged, prevZero}
 
 pub data Row : Type 0 where
