@@ -4,15 +4,15 @@ use mathlib.Core.Bool.{Bool, true, false, not, _&&_}
 use mathlib.Core.List.{List, [], _∷_, _++_}
 use lib.Dec.{eqb}
 use lib.IntN.{ℤ, pos, negsuc}
-use lib.ListN.{replicate}
+use lib.ListN.{getD, replicate}
 use lib.Ieee.{Float, fin, eq}
 use Rattle.block.specs.Block.{Block}
 use Rattle.block.specs.Cost.{localCost}
 use Rattle.block.specs.Band.{problemOf, halfWidth}
 use Rattle.candidates.specs.Candidates.{eqZ}
-use Rattle.least_cost.specs.Search.{Problem}
+use Rattle.least_cost.specs.Search.{Problem, wholeCost}
 use Rattle.worked.specs.Cases.{Answer, answered, answerOf, whole, quarter, half, window, flat, apart, blockWith, zeros}
-use Rattle.worked.specs.Errors.{countHeld, answerZero, alwaysCharged, prevZero}
+use Rattle.worked.specs.Errors.{countHeld, answerZero, alwaysCharged, prevZero, forwardCost}
 
 pub data Row : Type 0 where
   row : (reading : Problem → Answer) (p : Problem) (a : Answer) → Row
@@ -55,7 +55,7 @@ long n = blockWith (fin false 1 (pos 20)) (replicate n (whole 3)) (replicate n (
 unfoldable pub rounded : Row
 rounded = row answerOf (problemOf halfWidth (window 1 0) (flat (whole 1)) (long 1)) (answered (fin false 37 (pos 20)) 33 (pos 4 ∷ []))
 
--- ---- document 01's plausible errors, but summing forward: first what is right, then what the error gives
+-- ---- Document 01's plausible errors, but summing forward: first what is right, then what the error gives
 
 -- Holding the whole count within 6. Seven levels of 1 where the ideals are 0: all may be dropped.
 unfoldable pub fallsBySeven : Row
@@ -96,33 +96,47 @@ unfoldable pub rows : List Row
 rows =
     allZero ∷ outside ∷ inside ∷ rounded ∷ fallsBySeven ∷ fallsBySix ∷ nonzeroStays ∷ zeroStays ∷ threeTokens ∷ prevOne ∷ prevNone ∷ []
 
--- ---- costs of choices
+-- ---- costs of single choices, in rows of their own: a reading of the cost, a choice, and what is stated
 
--- Summing the window forward. Three levels of 4 with ideals of 3 before 32 tokens at 2^20. From the end, each local cost's fraction is lost in the tail, and the fours cost
--- what the threes do; from the front the fractions add up first.
+pub data CostRow : Type 0 where
+  costs : (reading : List ℤ → Float) (levels : List ℤ) (x : Float) → CostRow
+
+unfoldable pub computedCost : CostRow → CostRow
+computedCost (costs f levels x) = costs f levels (f levels)
+
+unfoldable pub differCost : CostRow → CostRow → Bool
+differCost (costs f c x) (costs g d y) = not (eq x y)
+
+-- The choice that the band leaves out in `outside`.
+unfoldable pub leftOut : CostRow
+leftOut = costs (wholeCost (threeOnes 1)) (replicate 3 (pos 0)) (whole 3)
+
+-- The local costs of 4 and 3 in `rounded`, where 33 remain: 2^20 + 7/8 and 2^20.
+unfoldable pub firstLocal : List ℤ → Float
+firstLocal levels = localCost (flat (whole 1)) (long 1) 0 33 0 (getD levels 0 (pos 0))
+
+unfoldable pub four : CostRow
+four = costs firstLocal (pos 4 ∷ []) (fin false 8388615 (negsuc 2))
+
+unfoldable pub three : CostRow
+three = costs firstLocal (pos 3 ∷ []) (fin false 1 (pos 20))
+
+-- Summing the window forward. Three levels of 4 with ideals of 3 before 32 tokens at 2^20: from the end back, each local cost's fraction is lost in the tail, and fours cost
+-- what threes do; from the front on, the fractions add up to 4 more.
 unfoldable pub threeLong : Problem
 threeLong = problemOf halfWidth (window 3 0) (flat (whole 1)) (long 3)
 
-unfoldable pub foursAndThrees : List (List ℤ)
-foursAndThrees = replicate 3 (pos 4) ∷ replicate 3 (pos 3) ∷ []
+unfoldable pub foursBack : CostRow
+foursBack = costs (wholeCost threeLong) (replicate 3 (pos 4)) (fin false 39 (pos 20))
 
-unfoldable pub backward : List Float
-backward = fin false 39 (pos 20) ∷ fin false 39 (pos 20) ∷ []
+unfoldable pub threesBack : CostRow
+threesBack = costs (wholeCost threeLong) (replicate 3 (pos 3)) (fin false 39 (pos 20))
 
-unfoldable pub forward : List Float
-forward = fin false 10223617 (pos 2) ∷ fin false 39 (pos 20) ∷ []
+unfoldable pub foursOn : CostRow
+foursOn = costs (forwardCost threeLong) (replicate 3 (pos 4)) (fin false 10223617 (pos 2))
 
--- The local costs of the levels 4 and 3 at the first position, 33 remaining.
-unfoldable pub localCosts : List Float
-localCosts = localCost (flat (whole 1)) (long 1) 0 33 0 (pos 4) ∷ localCost (flat (whole 1)) (long 1) 0 33 0 (pos 3) ∷ []
+unfoldable pub threesOn : CostRow
+threesOn = costs (forwardCost threeLong) (replicate 3 (pos 3)) (fin false 39 (pos 20))
 
--- ---- every price infinite, all zero
-
--- every choice for a window of two restoring positions
-unfoldable pub choices : List (List ℤ)
-choices =
-    (pos 0 ∷ pos 0 ∷ []) ∷ (pos 0 ∷ negsuc 0 ∷ []) ∷ (pos 0 ∷ pos 1 ∷ []) ∷ (negsuc 0 ∷ pos 0 ∷ []) ∷ (negsuc 0 ∷ negsuc 0 ∷ []) ∷ (negsuc 0 ∷ pos 1 ∷ [])
-    ∷ (pos 1 ∷ pos 0 ∷ [])
-    ∷ (pos 1 ∷ negsuc 0 ∷ [])
-    ∷ (pos 1 ∷ pos 1 ∷ [])
-    ∷ []
+unfoldable pub costRows : List CostRow
+costRows = leftOut ∷ four ∷ three ∷ foursBack ∷ threesBack ∷ foursOn ∷ threesOn ∷ []
