@@ -1,5 +1,5 @@
 -- Books, blocks and windows that are small enough to be worked through, and a search's answer as one record. Definitions only.
-use Prim.Native.Nat.{ℕ, zero, _-_}
+use Prim.Native.Nat.{ℕ, _-_}
 use mathlib.Core.Bool.{false}
 use mathlib.Core.List.{List, [], _∷_, _++_, map}
 use lib.IntN.{ℤ, pos, negsuc}

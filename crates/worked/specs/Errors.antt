@@ -1,11 +1,10 @@
 -- Five plausible errors in reading document 01 (its "Plausible errors to exclude"), each as the definition would be with it. Definitions only.
 use Prim.Native.Nat.{ℕ, zero, suc, _+_, _-_, max, min}
-use mathlib.Core.Bool.{cond}
+use mathlib.Core.Bool.{false, cond}
 use mathlib.Core.List.{List, [], _∷_, _++_}
 use lib.Dec.{eqb}
 use lib.IntN.{ℤ, pos}
 use lib.Ieee.{Float, inf, add, mul, binary32}
-use mathlib.Core.Bool.{false}
 use Rattle.block.specs.Block.{Block, covered, inputRemaining}
 use Rattle.block.specs.Cost.{distortion, rate, tokenPrice}
 use Rattle.block.specs.Band.{pastWindow, problemOf}
