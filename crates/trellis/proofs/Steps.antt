@@ -184,7 +184,7 @@ module _ {book : Book} {b : Block} {p : Plan} (K : Checked book b p) where
   unfolding pastWindow
   past-after i h = between (covered b + windowLength b) (windowLength b - 1 - i) (covered b + suc i) (ends (covered b) (windowLength b) i h) (P .window .fits)
 
-  priced-cons : (i : ℕ) → i < windowLength b → AllPriced (tail book b) (position book b i ∷ positions book b (suc i))
+  pub priced-cons : (i : ℕ) → i < windowLength b → AllPriced (tail book b) (position book b i ∷ positions book b (suc i))
   priced-cons i h = subst (AllPriced (tail book b)) (positions-cons i h) (priced i (windowLength b - i) (omega arith))
 
   module _ (i : ℕ) (h : i < windowLength b) where
@@ -208,7 +208,7 @@ module _ {book : Book} {b : Block} {p : Plan} (K : Checked book b p) where
           whole = λ r l u l' u'. (omega arith, omega arith);
         }
 
-    within-counts : (c : Counts) → c .least ≡ leastCount (pastWindow (windowOf (covered b)) b) (inputRemaining b (covered b + suc i))
+    pub within-counts : (c : Counts) → c .least ≡ leastCount (pastWindow (windowOf (covered b)) b) (inputRemaining b (covered b + suc i))
         → c .most ≡ min (inputRemaining b (covered b + suc i) + 6) (pastWindow (windowOf (covered b)) b + (windowLength b - 1 - i)) + 1
         → (r q : ℕ) → q ≤ 1 → T (finite (best (tail book b) (position book b i ∷ positions book b (suc i)) r q)) → (c .least ≤ r) × (r ≤ c .most)
     unfolding positionAt tailOf leastCount
@@ -221,7 +221,7 @@ module _ {book : Book} {b : Block} {p : Plan} (K : Checked book b p) where
           subst⁻¹ (λ (n : ℕ). r ≤ n) f (high-part _ _ r (windowLength b) i h (rw long at (reach .most)) (rw a at (near .most))),
         )
 
-    narrow : (c : Counts) → c .least ≡ leastCount (pastWindow (windowOf (covered b)) b) (inputRemaining b (covered b + suc i))
+    pub narrow : (c : Counts) → c .least ≡ leastCount (pastWindow (windowOf (covered b)) b) (inputRemaining b (covered b + suc i))
         → c .most ≡ min (inputRemaining b (covered b + suc i) + 6) (pastWindow (windowOf (covered b)) b + (windowLength b - 1 - i)) + 1 → c .most ≤ c .least + 13
     unfolding leastCount
     narrow c e f = omega arith

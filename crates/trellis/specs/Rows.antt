@@ -5,15 +5,18 @@ use mathlib.Core.Bool.{Bool, cond}
 use mathlib.Core.List.{List}
 use lib.IntN.{ℤ}
 use lib.ListN.{length, getD}
+use lib.Dec.{T}
 use lib.Ieee.{Float, nan, lt}
+use lib.Ieee.Scale.{finite}
 use Rattle.block.specs.Block.{Block, covered, inputRemaining}
 use Rattle.block.specs.Band.{positionAt, positionsFrom, tailOf, pastWindow, problemOf, halfWidth}
 use Rattle.block.specs.Checks.{blockRefusal}
+use Rattle.block.specs.Cost.{firstPrev}
 use Rattle.least_cost.specs.Position.{Position, Tail}
-use Rattle.least_cost.specs.Search.{Problem}
+use Rattle.least_cost.specs.Search.{Problem, best, walk}
 use Rattle.prices.specs.Book.{Book}
 use Rattle.prices.specs.Checks.{bookRefusal}
-use Rattle.steps.specs.Plan.{Planned, Coded}
+use Rattle.steps.specs.Plan.{Planned, Coded, Lists}
 use Rattle.steps.specs.declared.reading.Plan.{Plan}
 use Rattle.trellis_row.specs.Row.{Elsewhere}
 use Rattle.trellis_row.specs.Table.{RowFor, ChoicesFor}
@@ -99,3 +102,19 @@ pub record TailRow (book : Book) (b : Block) (past : ℕ) (row : List Float) : T
 -- a cost that is below the least so far takes its place
 unfoldable pub considered : Best → Float → ℕ → Best
 considered best x n = cond (lt x (best .cost)) (record { cost = x; count = n }) best
+
+-- what the walk goes by: rows and choices that are done, and a count of finite cost
+pub record Walkable (scan : List ℕ) (source inverse : List Float) (levels : List ℤ) (plan : Plan) (past nonzeros : ℕ) (choices : List ℕ) (count : ℕ) : Type 0 where
+  pub book : Book
+  pub block : Block
+  pub lists : Lists block scan source inverse levels
+  pub checked : Checked book block plan
+  pub past-is : past ≡ pastWindow (windowOf (covered block)) block
+  pub nonzeros-are : nonzeros ≡ inputRemaining block (covered block)
+  pub chosen : ChosenFrom book block 0 choices
+  pub room : 28 * windowLength block ≤ length choices
+  pub cheap : T (finite (best (tail book block) (positions book block 0) count (firstPrev block count)))
+
+-- the levels of the walk from `count` on
+abbrev pub walked : Book → Block → ℕ → List ℤ
+walked book b count = walk (tail book b) (positions book b 0) count (firstPrev b count)

@@ -3,3 +3,4 @@ mod clear;
 mod count;
 mod exchange;
 mod position;
+mod walk;

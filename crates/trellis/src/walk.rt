@@ -1,0 +1,59 @@
+// The walk from the first position on: the levels that the choices name, written through the scan.
+use crate::count;
+use crate::position;
+use steps::reading::Plan;
+ghost use mathlib.Core.Path.{_≡_};
+ghost use Prim.Native.Nat.{_+_, _-_, _*_, _≤_, _<_};
+ghost use lib.ListN.{length, getD, set};
+ghost use Rattle.block.specs.Block.{covered};
+ghost use Rattle.scan.specs.Scan.{put};
+ghost use Rattle.trellis.specs.Rows.{windowLength, Walkable, walked};
+
+// The choice at a position, for `left` remaining and `prev`.
+fn choice_at(choices: &[u8], i: usize, least: usize, left: usize, prev: usize) -> usize
+    requires { ⌜ (i < 1024) × ((left ≤ 131072) × (28 * i + 28 ≤ length (now choices))) ⌝ }
+    requires { ⌜ (least ≤ left) × ((left ≤ least + 13) × (prev ≤ 1)) ⌝ }
+    ensures { λ r. ⌜ r ≡ getD (now (choices .entry)) (28 * i + (2 * (left - least) + prev)) 0 ⌝ }
+{
+    choices[position::BAND_STRIDE * i + (2 * (left - least) + prev)] as usize
+}
+
+fn write_level(scan: &[u32], levels: &mut [i32], k: usize, level: i32)
+    requires { ⌜ k < length (now scan) ⌝ }
+    requires { ⌜ getD (now scan) k 0 < length (now levels) ⌝ }
+    ensures { λ _. ⌜ now (levels .exit) ≡ set (now (levels .entry)) (getD (now (scan .entry)) k 0) level ⌝ }
+{
+    levels[scan[k] as usize] = level;
+}
+
+// `nonzeros` counts the input's from the first position on, `count` those that the walk leaves.
+pub(crate) fn write_levels(
+    scan: &[u32],
+    source: &[f32],
+    inv_qm: &[f32],
+    levels: &mut [i32],
+    plan: Plan,
+    past: usize,
+    nonzeros: usize,
+    choices: &[u8],
+    count: usize,
+)
+    requires { ⌜ Walkable (now scan) (now source) (now «inv_qm») (now levels) plan past nonzeros (now choices) count ⌝ }
+    ensures { λ _. ⌜ ((w : Walkable (now (scan .entry)) (now (source .entry)) (now («inv_qm» .entry)) (now (levels .entry)) plan past nonzeros (now (choices .entry)) count) → now (levels .exit) ≡ put (now (scan .entry)) (walked (w .book) (w .block) count) (covered (w .block)) (windowLength (w .block)) (now (levels .entry))) ⌝ }
+{
+    let window = plan.window;
+    let covered = plan.covered;
+    let mut prev = count::first_prev(covered, count);
+    let mut left = count;
+    let mut after = nonzeros;
+    for i in 0..window.length {
+        let spot = plan.spot(scan, source, inv_qm, levels, i);
+        after -= steps::nonzero(spot.level);
+        let least = position::least_count(past, after);
+        let candidates = spot.candidates;
+        let level = candidates.levels[choice_at(choices, i, least, left, prev)];
+        write_level(scan, levels, covered + i, level);
+        prev = steps::nonzero(level);
+        left -= prev;
+    }
+}
