@@ -1,0 +1,3 @@
+// The greedy search: one pass over the window, from the last position to the first.
+pub mod cost;
+pub mod run;
