@@ -199,6 +199,7 @@ pub(crate) fn cheapest(
     requires { ⌜ T (isLevel current) ⌝ }
     ensures { λ r. ⌜ ((b : Block) → Planned b plan → place ≡ placeOf b (plan .log2) i
         → r ≡ holder (costOf (bookOf clusters (now (map .entry)) (now (configs .entry)) (now (symbols .entry)) (now (ready .entry))) b i (around .later) (around .others) (around .front) (around .run)) (inf false) current (listed candidates)) ⌝ }
+    ensures { λ r. ⌜ T (isLevel r) ⌝ }
 {
     let count = candidates.count;
     let mut best = Best {

@@ -81,12 +81,15 @@ loop-again c =
 
 returns : tie.Need-returns Inv-loop μ-loop
 returns c =
-    λ b w at.
     let at-loop = c .before .before in
     let start = at-loop .before .before .before .before .before .before in
     let usable = start .pre .1 .1 .1 .0 in
     let last : at-loop .loop .j ≡ start .args .t8 .count = omega arith in
-    holder-done _ _ _ _ _ _ _ _ (last ∙ sym (listed-length usable)) (level-back _ (at-loop .loop .inv .1 .0)) (level-back (start .args .current) (start .pre .1 .1 .1 .1)) (at-loop .loop .inv .1 .1 b w at)
+    let level = at-loop .loop .inv .1 .0 in (
+      λ b w at.
+          holder-done _ _ _ _ _ _ _ _ (last ∙ sym (listed-length usable)) (level-back _ level) (level-back (start .args .current) (start .pre .1 .1 .1 .1)) (at-loop .loop .inv .1 .1 b w at),
+      rw (level-back _ level) level,
+    )
 
 pub cheapest-spec : {M : Type 1} → statement M
 cheapest-spec =
