@@ -1,3 +1,4 @@
 pub mod Costing
 pub mod Runs
 pub mod Passing
+pub mod Stepping

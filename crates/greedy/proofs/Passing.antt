@@ -11,6 +11,11 @@ use lib.IntN.{ℤ, pos}
 use lib.ListN.{length, getD}
 use lib.Ieee.{Float, inf}
 use borrow.Author.Tests.{eq-eqb, ne-eqb}
+use mir.Syntax.{w32}
+use mir.Val.{ofZ, toZ}
+use Rattle.bias.specs.Level.{isLevel}
+use Rattle.candidates.specs.Candidates.{isCurrent}
+use Rattle.steps.proofs.Zero.{handed-current, current-level, level-back}
 use Rattle.block.specs.Band.{inputAfter}
 use Rattle.block.specs.Block.{Block, covered, inputAt, inputRemaining, nonzerosAmong, candidatesAt}
 use Rattle.least_cost.specs.Position.{nz}
@@ -135,6 +140,21 @@ module _ (book : Book) (b : Block) (i : ℕ) {later : ℕ} (e : later ≡ inputA
       rw (eq-eqb (inputAfter b i) 0 empty) (cc)
 
 -- ---- the level that a position takes
+pub handed-level : (q z : ℤ) → z ≡ q → T (isCurrent q) → T (isLevel (toZ w32 (ofZ w32 z)))
+handed-level q z e h = current-level (toZ w32 (ofZ w32 z)) (handed-current q z e h)
+
+-- a level of a call, handed on as 32 bits
+pub passed-on : (q z : ℤ) → T (isLevel q) → q ≡ z → toZ w32 (ofZ w32 q) ≡ z
+passed-on q z h e = level-back q h ∙ e
+
+pub passed-level : (q : ℤ) → T (isLevel q) → T (isLevel (toZ w32 (ofZ w32 q)))
+passed-level q h = rw (level-back q h) h
+
+pub inputs : {b : Block} {p : Plan} {scan : List ℕ} {source inverse : List Float} {levels : List ℤ} (i : ℕ) → Lists b scan source inverse levels → Planned b p
+    → levelAt scan levels (p .covered + i) ≡ inputAt b (covered b + i)
+unfolding inputAt
+inputs i l w = rw (l .scan-is, l .levels-is, w .covered-is)
+
 module _ (book : Book) {b : Block} {log2 i : ℕ} {spot : Spot} (s : Spotted b log2 i spot) (u : Usable (spot .candidates)) {current : ℤ} (ec : current ≡ inputAt b (covered b + i))
   {later : ℕ} (e : later ≡ inputAfter b i) {t : Bool} (et : t ≡ (eqb (spot .candidates .count) 1 || (eqb (nz current) 0 && eqb later 0))) where
   stays-is : t ≡ stays (windowOf (covered b)) b i

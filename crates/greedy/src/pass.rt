@@ -147,3 +147,102 @@ fn write(scan: &[u32], levels: &mut [i32], k: usize, level: i32) -> usize
     levels[at] = level;
     before
 }
+
+// Settles window position i.
+fn step(
+    clusters: u32,
+    map: &[u8],
+    configs: &[u8],
+    symbols: &[f32],
+    ready: &[f32],
+    plan: Plan,
+    scan: &[u32],
+    source: &[f32],
+    inv_qm: &[f32],
+    levels: &mut [i32],
+    i: usize,
+    counts: Counts,
+) -> Counts
+    requires { ⌜ bookRefusal (bookOf clusters (now map) (now configs) (now symbols) (now ready)) ≡ 0 ⌝ }
+    requires { ⌜ Coded plan ⌝ }
+    requires { ⌜ Fitting plan ⌝ }
+    requires { ⌜ Ready plan (now scan) (now source) (now «inv_qm») (now levels) (plan .covered + i + 1) ⌝ }
+    requires { ⌜ i < plan .window .length ⌝ }
+    requires { ⌜ (counts .later ≡ countFrom (now scan) (now levels) (plan .covered) (plan .covered + i + 1)) × (counts .total ≡ countFrom (now scan) (now levels) (plan .covered) (plan .covered)) ⌝ }
+    ensures { λ r. ⌜ ((b : Block) → Lists b (now (scan .entry)) (now (source .entry)) (now («inv_qm» .entry)) (now (levels .entry)) → Planned b plan
+        → now (levels .exit) ≡ settledAt (windowOf (coveredBy b)) (bookOf clusters (now (map .entry)) (now (configs .entry)) (now (symbols .entry)) (now (ready .entry))) b i) ⌝ }
+    ensures { λ r. ⌜ Ready plan (now (scan .entry)) (now (source .entry)) (now («inv_qm» .entry)) (now (levels .exit)) (plan .covered + i) ⌝ }
+    ensures { λ r. ⌜ (r .later ≡ countFrom (now (scan .entry)) (now (levels .exit)) (plan .covered) (plan .covered + i)) × (r .total ≡ countFrom (now (scan .entry)) (now (levels .exit)) (plan .covered) (plan .covered)) ⌝ }
+{
+    let level = choice(
+        clusters, map, configs, symbols, ready, plan, scan, source, inv_qm, levels, i, counts,
+    );
+    let before = write(scan, levels, plan.covered + i, level);
+    let nonzero = steps::nonzero(level);
+    Counts {
+        later: counts.later + nonzero,
+        total: counts.total - before + nonzero,
+    }
+}
+
+// The nonzero levels from scan position `from` up to `end`.
+fn nonzeros_between(scan: &[u32], levels: &[i32], from: usize, end: usize, covered: usize) -> usize
+    requires { ⌜ Whole covered from (now scan) (now levels) ⌝ }
+    requires { ⌜ (from ≤ end) × (end ≤ length (now scan)) ⌝ }
+    ensures { λ r. ⌜ r ≡ nonzerosAmong (now (scan .entry)) (now (levels .entry)) from (end - from) ⌝ }
+{
+    let mut k = end;
+    let mut count = 0;
+    while from < k {
+        k -= 1;
+        count += steps::nonzero(steps::level_at(scan, levels, k));
+    }
+    count
+}
+
+// The counts at the window's end.
+fn counts_of(scan: &[u32], levels: &[i32], covered: usize, window: usize) -> Counts
+    requires { ⌜ Whole covered covered (now scan) (now levels) ⌝ }
+    requires { ⌜ (covered + window ≤ 64 * covered) × (covered ≤ 1024) ⌝ }
+    ensures { λ r. ⌜ (r .later ≡ countFrom (now (scan .entry)) (now (levels .entry)) covered (covered + window)) × (r .total ≡ countFrom (now (scan .entry)) (now (levels .entry)) covered covered) ⌝ }
+{
+    let end = covered + window;
+    let later = steps::tokens::nonzeros_from(scan, levels, end, covered);
+    Counts {
+        later,
+        total: later + nonzeros_between(scan, levels, covered, end, covered),
+    }
+}
+
+// The whole pass. The count of nonzero levels from scan position c on.
+pub(crate) fn settle(
+    clusters: u32,
+    map: &[u8],
+    configs: &[u8],
+    symbols: &[f32],
+    ready: &[f32],
+    plan: Plan,
+    scan: &[u32],
+    source: &[f32],
+    inv_qm: &[f32],
+    levels: &mut [i32],
+) -> usize
+    requires { ⌜ bookRefusal (bookOf clusters (now map) (now configs) (now symbols) (now ready)) ≡ 0 ⌝ }
+    requires { ⌜ Coded plan ⌝ }
+    requires { ⌜ Fitting plan ⌝ }
+    requires { ⌜ Ready plan (now scan) (now source) (now «inv_qm») (now levels) (64 * plan .covered) ⌝ }
+    ensures { λ r. ⌜ ((b : Block) → Lists b (now (scan .entry)) (now (source .entry)) (now («inv_qm» .entry)) (now (levels .entry)) → Planned b plan
+        → now (levels .exit) ≡ greedyLevels (windowOf (coveredBy b)) (bookOf clusters (now (map .entry)) (now (configs .entry)) (now (symbols .entry)) (now (ready .entry))) b) ⌝ }
+    ensures { λ r. ⌜ r ≡ countFrom (now (scan .entry)) (now (levels .exit)) (plan .covered) (plan .covered) ⌝ }
+{
+    let window = plan.window;
+    let mut counts = counts_of(scan, levels, plan.covered, window.length);
+    let mut i = window.length;
+    while 0 < i {
+        i -= 1;
+        counts = step(
+            clusters, map, configs, symbols, ready, plan, scan, source, inv_qm, levels, i, counts,
+        );
+    }
+    counts.total
+}
