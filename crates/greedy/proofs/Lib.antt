@@ -2,3 +2,4 @@ pub mod Costing
 pub mod Runs
 pub mod Passing
 pub mod Stepping
+pub mod Settling
