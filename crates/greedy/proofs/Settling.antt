@@ -1,6 +1,6 @@
 -- The pass over the whole window, and what the call answers. Assumes nothing.
 use mathlib.Core.Path.{_≡_, refl, sym, ap, _∙_}
-use mathlib.Core.Bool.{true}
+use mathlib.Core.Bool.{Bool, true, false, cond, _&&_}
 use mathlib.Core.List.{List, []}
 use Prim.Native.Nat.{ℕ, zero, suc, _+_, _-_, _*_, _≤_, _<_, min}
 use native.Mathlib.Omega.{arith}
@@ -12,12 +12,14 @@ use lib.Ieee.{Float}
 use borrow.Author.Tests.{eq-eqb, ne-eqb}
 use Rattle.bias.specs.declared.DequantBias.{DequantBias}
 use Rattle.block.specs.Block.{Block, blockOf, covered, contextOf, inputAt, inputRemaining, ideal, idealAt, nonzerosAmong}
-use Rattle.block.specs.Checks.{blockRefusal, searchRefusal}
+use Rattle.ac_context.specs.Contexts.{isPowerBelow}
+use Rattle.block.specs.Checks.{check7, blockRefusal, searchRefusal}
 use Rattle.block.specs.declared.Answer.{Answer}
 use Rattle.block.specs.declared.Answer.the-variants.{Count, Refused}
 use Rattle.block.specs.declared.Shape.{Shape}
 use Rattle.block_checks.specs.Passed.{Passed}
-use Rattle.block_checks.proofs.Laws.{passed, refused-book, refused-block, refused-room}
+use Rattle.block_checks.proofs.Laws.{refused-room}
+use Rattle.laws.proofs.Tests.{and-left, and-right}
 use Rattle.prices.specs.Book.{Book}
 use Rattle.prices.specs.Checks.{bookRefusal}
 use Rattle.scan.specs.Scan.{Perm, levelAt}
@@ -132,3 +134,84 @@ module _ {p : Plan} (book : Book) {scan : List ℕ} {source inverse : List Float
   so-far-all {levels} {counts} {i} h s b l w =
       let none : i ≡ 0 = omega arith in
       rw none at (s .rest b l w) ∙ ap (λ (v : Window). settledFrom (windowOf (covered b)) book (v .length) b) (w .window-is)
+
+-- ---- the call
+module _ {shape : Shape} {settings : Settings} {bias : DequantBias} {scale : Float} {p : Plan} (w : Planned (blockOf shape settings bias scale [] [] [] []) p)
+  (scan : List ℕ) (source inverse : List Float) (levels : List ℤ) where
+  -- a plan goes by no list
+  pub planned-lists : Planned (blockOf shape settings bias scale scan source inverse levels) p
+  unfolding covered contextOf
+  planned-lists =
+      record {
+        covered-is = w .covered-is;
+        covers = w .covers;
+        window-is = w .window-is;
+        base-is = w .base-is;
+        offset-is = w .offset-is;
+        count-is = w .count-is;
+        scale-is = w .scale-is;
+        distance-is = w .distance-is;
+        bias-is = w .bias-is;
+        lambda-is = w .lambda-is;
+        restore-is = w .restore-is;
+        source-is = w .source-is;
+      }
+
+pub own-lists : (b : Block) → Lists b (b .scan) (b .source) (b .inverse) (b .levels)
+own-lists b = record { scan-is = refl; source-is = refl; inverse-is = refl; levels-is = refl }
+
+-- the sides of a block that passed
+pub sides : (b : Block) → blockRefusal (windowOf (covered b)) b 0 ≡ 0 → (isPowerBelow 6 (b .shape .cx) ≡ true) × (isPowerBelow 6 (b .shape .cy) ≡ true)
+unfolding blockRefusal check7
+sides b e = (and-left x y seven, and-right x y seven)
+  where
+    x : Bool
+    x = isPowerBelow 6 (b .shape .cx)
+
+    y : Bool
+    y = isPowerBelow 6 (b .shape .cy)
+
+    go : (t : Bool) (n : ℕ) → cond t n 7 ≡ 0 → t ≡ true
+    go true n h = refl
+    go false n h = absurd (omega arith)
+
+    seven : (x && y) ≡ true
+    seven = go (x && y) _ e
+
+small-base : (c : ℕ) → baseLen c ≤ 1024
+small-base c = le-trans (min-le-left (min (24 * c) 64) (63 * c)) (le-trans (min-le-right (24 * c) 64) (lit≤ tt))
+
+module _ {b : Block} {p : Plan} (a : Passed (windowOf (covered b)) b) (w : Planned b p) where
+  pub fitting-of : Fitting p
+  fitting-of =
+      record {
+        some = rw (w .covered-is) (a .some);
+        most = rw (w .covered-is) (a .most);
+        base = rw (w .base-is) (small-base (covered b));
+        window = rw (w .covered-is, w .window-is) (a .window .fits);
+      }
+
+  pub ready-of : Ready p (b .scan) (b .source) (b .inverse) (b .levels) (64 * p .covered)
+  unfolding inputAt ideal
+  ready-of =
+      record {
+        scanned = rw (w .covered-is) (a .scanned);
+        sourced = rw (w .covered-is) (a .source-long);
+        inverted = rw (w .covered-is) (a .inverse-long);
+        levelled = rw (w .covered-is) (a .levels-long);
+        current = λ k l m. a .current k (rw (w .covered-is) at l) (rw (w .covered-is) at m);
+        ideals = λ i h. rw (w .covered-is, w .source-is) (a .ideals i (rw (w .window-is) at h));
+      }
+
+module _ (book : Book) (b : Block) where
+  pub refused-outcome : {n : ℕ} → n ≡ searchRefusal book b true → (n ≡ 0 → ⊥) → (Refused n ≡ greedyOutcome book b .answer) × (b .levels ≡ greedyOutcome book b .levels)
+  unfolding greedyOutcome
+  refused-outcome e some = rw (ne-eqb (searchRefusal book b true) 0 (λ z. some (e ∙ z))) (ap Refused e, refl)
+
+  pub settled-outcome : {p : Plan} {levels : List ℤ} {count : ℕ} → bookRefusal book ≡ 0 → blockRefusal (windowOf (covered b)) b 0 ≡ 0 → Planned b p
+      → levels ≡ greedyLevels (windowOf (covered b)) book b → count ≡ countFrom (b .scan) levels (p .covered) (p .covered)
+      → (Count count ≡ greedyOutcome book b .answer) × (levels ≡ greedyOutcome book b .levels)
+  unfolding greedyOutcome inputRemaining covered
+  settled-outcome {p} {levels} {count} ok passes w el ec =
+      let none : searchRefusal book b true ≡ 0 = refused-room book b true ok passes in
+      rw (eq-eqb (searchRefusal book b true) 0 none, ← el) (ap Count (ec ∙ rw (w .covered-is)), refl)
