@@ -46,7 +46,7 @@ module _ (b : Block) (c i front count : ℕ) (e : c ≡ covered b) where
 
 -- ---- bits
 module _ (book : Book) (b : Block) (plan : Plan) (i remaining prev : ℕ) (run : Float) (q q' : ℤ) (token : Float) (w : Planned b plan) (same : q' ≡ q) (some : remaining ≡ 0 → ⊥)
-  (is : token ≡ tokenPrice book b remaining (plan .covered + i) prev q') where
+    (is : token ≡ tokenPrice book b remaining (plan .covered + i) prev q') where
   pub bits-zero : nz q ≡ 0 → token ≡ bitsOf book b i remaining prev run q
   unfolding bitsOf
   bits-zero z = let cov = w .covered-is in rw (ne-eqb remaining 0 some, eq-eqb (nz q) 0 z) (cc)

@@ -156,7 +156,7 @@ unfolding inputAt
 inputs i l w = rw (l .scan-is, l .levels-is, w .covered-is)
 
 module _ (book : Book) {b : Block} {log2 i : ℕ} {spot : Spot} (s : Spotted b log2 i spot) (u : Usable (spot .candidates)) {current : ℤ} (ec : current ≡ inputAt b (covered b + i))
-  {later : ℕ} (e : later ≡ inputAfter b i) {t : Bool} (et : t ≡ (eqb (spot .candidates .count) 1 || (eqb (nz current) 0 && eqb later 0))) where
+    {later : ℕ} (e : later ≡ inputAfter b i) {t : Bool} (et : t ≡ (eqb (spot .candidates .count) 1 || (eqb (nz current) 0 && eqb later 0))) where
   stays-is : t ≡ stays (windowOf (covered b)) b i
   unfolding stays
   stays-is =

@@ -137,7 +137,7 @@ module _ {p : Plan} (book : Book) {scan : List ℕ} {source inverse : List Float
 
 -- ---- the call
 module _ {shape : Shape} {settings : Settings} {bias : DequantBias} {scale : Float} {p : Plan} (w : Planned (blockOf shape settings bias scale [] [] [] []) p)
-  (scan : List ℕ) (source inverse : List Float) (levels : List ℤ) where
+    (scan : List ℕ) (source inverse : List Float) (levels : List ℤ) where
   -- a plan goes by no list
   pub planned-lists : Planned (blockOf shape settings bias scale scan source inverse levels) p
   unfolding covered contextOf

@@ -33,7 +33,7 @@ among-off scanned block j v below k (suc n) fits off =
     cc
 
 module _ {p : Plan} {scan : List ℕ} {source inverse : List Float} {levels : List ℤ} (i : ℕ) (f : Fitting p) (r : Ready p scan source inverse levels (p .covered + i + 1)) (h : i < p .window .length)
-  (q : ℤ) {after : List ℤ} (e : after ≡ set levels (getD scan (p .covered + i) 0) q) where
+    (q : ℤ) {after : List ℤ} (e : after ≡ set levels (getD scan (p .covered + i) 0) q) where
   inside : p .covered + i < 64 * p .covered
   inside = omega (arith, f .window)
 

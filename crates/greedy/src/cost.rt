@@ -1,7 +1,7 @@
 // What a candidate costs, and the cheapest of them.
 use candidates::Candidates;
-use steps::reading::Plan;
 use steps::Place;
+use steps::reading::Plan;
 ghost use mathlib.Core.Path.{_≡_};
 ghost use mathlib.Core.Bool.{false};
 ghost use Prim.Native.Nat.{ℕ, _+_, _*_, _<_, _≤_};
@@ -173,9 +173,10 @@ fn candidate_cost(
         around.run,
         level,
     );
-    place.distortion(level)
-        + place.rate(level) * bits
-        + steps::tokens::count_cost(clusters, map, configs, symbols, ready, plan, count)
+    let distortion = place.distortion(level);
+    let rated = place.rate(level) * bits;
+    let counted = steps::tokens::count_cost(clusters, map, configs, symbols, ready, plan, count);
+    distortion + rated + counted
 }
 
 // The first of the cheapest candidates; the current level where no cost is finite.
@@ -210,7 +211,16 @@ pub(crate) fn cheapest(
     while j < count {
         let level = candidates.levels[j];
         let cost = candidate_cost(
-            clusters, map, configs, symbols, ready, plan, place, i, around, level,
+            clusters,
+            map,
+            configs,
+            symbols,
+            ready,
+            plan,
+            place,
+            i,
+            around,
+            level,
         );
         best = best.consider(cost, level);
         j += 1;

@@ -38,14 +38,30 @@ pub fn rdoq_block_greedy(
         return Answer::Refused(book);
     }
     let refusal = block_checks::check_block(
-        shape, settings, bias, scale, scan, source, inv_qm, levels,
+        shape,
+        settings,
+        bias,
+        scale,
+        scan,
+        source,
+        inv_qm,
+        levels,
     );
     if refusal != 0 {
         return Answer::Refused(refusal);
     }
     let plan = steps::reading::plan_of(shape, settings, bias, scale);
     let count = pass::settle(
-        clusters, map, configs, symbols, ready, plan, scan, source, inv_qm, levels,
+        clusters,
+        map,
+        configs,
+        symbols,
+        ready,
+        plan,
+        scan,
+        source,
+        inv_qm,
+        levels,
     );
     Answer::Count(count as u32)
 }

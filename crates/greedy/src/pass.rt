@@ -131,7 +131,17 @@ fn choice(
         run,
     };
     cost::cheapest(
-        clusters, map, configs, symbols, ready, plan, place, candidates, i, around, current,
+        clusters,
+        map,
+        configs,
+        symbols,
+        ready,
+        plan,
+        place,
+        candidates,
+        i,
+        around,
+        current,
     )
 }
 
@@ -175,7 +185,18 @@ fn step(
     ensures { λ r. ⌜ (r .later ≡ countFrom (now (scan .entry)) (now (levels .exit)) (plan .covered) (plan .covered + i)) × (r .total ≡ countFrom (now (scan .entry)) (now (levels .exit)) (plan .covered) (plan .covered)) ⌝ }
 {
     let level = choice(
-        clusters, map, configs, symbols, ready, plan, scan, source, inv_qm, levels, i, counts,
+        clusters,
+        map,
+        configs,
+        symbols,
+        ready,
+        plan,
+        scan,
+        source,
+        inv_qm,
+        levels,
+        i,
+        counts,
     );
     let before = write(scan, levels, plan.covered + i, level);
     let nonzero = steps::nonzero(level);
@@ -241,7 +262,18 @@ pub(crate) fn settle(
     while 0 < i {
         i -= 1;
         counts = step(
-            clusters, map, configs, symbols, ready, plan, scan, source, inv_qm, levels, i, counts,
+            clusters,
+            map,
+            configs,
+            symbols,
+            ready,
+            plan,
+            scan,
+            source,
+            inv_qm,
+            levels,
+            i,
+            counts,
         );
     }
     counts.total

@@ -28,7 +28,7 @@ returns-2 c =
 plan-of-requires : tie.Need-plan-of-requires
 plan-of-requires c κs =
     let ok = sym (c .before .before .before .before .check-book .ensures) ∙ c .before .before .before .if1 .left in
-    let passes = sym (c .before .check-block .ensures) ∙ c  .if2 .left in
+    let passes = sym (c .before .check-block .ensures) ∙ c .if2 .left in
     let a = passed _ passes in
     (sides _ passes, (a .strategy, a .channel))
 

@@ -21,8 +21,7 @@ add-token-bits c =
 
 token-bits-requires : tie.Need-token-bits-requires
 token-bits-requires c κs =
-    let start = c .before .before .before .before .before .before in
-    (
+    let start = c .before .before .before .before .before .before in (
       start .pre .0,
       (
         start .pre .1 .0,

@@ -33,8 +33,7 @@ add-bits c =
 bits-requires : tie.Need-bits-requires
 bits-requires c κs =
     let start = c .before .before .before .before .before .before .before .before in
-    let one : c .before .before .before .nonzero .result ≤ 1 = rw (c .before .before .before .nonzero .ensures) (nz-le _) in
-    (
+    let one : c .before .before .before .nonzero .result ≤ 1 = rw (c .before .before .before .nonzero .ensures) (nz-le _) in (
       start .pre .0,
       (start .pre .1 .0, ((omega (arith, start .pre .1 .1 .0 .0), c .before .prev-at .ensures .1), rw (level-back _ (start .pre .1 .1 .1)) (start .pre .1 .1 .1))),
     )

@@ -68,8 +68,7 @@ loop-again c =
     let start = at-loop .before .before .before .before .before .before in
     let usable = start .pre .1 .1 .1 .0 in
     let here = c .before .before .before .loop-test .taken in
-    let inv = at-loop .loop .inv in
-    (
+    let inv = at-loop .loop .inv in (
       search needs,
       (
         rw (c .consider .ensures) (considered-level _ _ _ (inv .1 .0) (usable-level usable _ here)),

@@ -1,4 +1,3 @@
-
 use borrow.Author.Needs.{needs}
 use Rattle.greedy.proofs.cost.density.Statement.{statement}
 use Rattle.greedy.proofs.cost.density.Tie as tie

@@ -52,8 +52,7 @@ returns c =
     let here = pre .1 .1 .1 .1 .0 in
     let counts = pre .1 .1 .1 .1 .1 in
     let reads = readable-at fitting ok _ here (omega arith) in
-    let back = handed-back _ _ (c .before .before .level-at .ensures) (reads .level) in
-    (
+    let back = handed-back _ _ (c .before .before .level-at .ensures) (reads .level) in (
       λ b lists w.
           let spotted = c .before .before .before .before .before .before .spot .ensures .0 b lists w in
           let current = back ∙ inputs (start .args .i) lists w in
@@ -108,8 +107,7 @@ cheapest-requires c κs =
     let counts = pre .1 .1 .1 .1 .1 in
     let inside : start .args .plan .covered + start .args .i < 64 * start .args .plan .covered = omega (arith, fitting .window) in
     let reads = readable-at fitting ok _ here (omega arith) in
-    let back = handed-back _ _ (c .before .before .before .before .before .before .level-at .ensures) (reads .level) in
-    (
+    let back = handed-back _ _ (c .before .before .before .before .before .before .level-at .ensures) (reads .level) in (
       pre .0,
       (
         pre .1 .0,
@@ -130,8 +128,7 @@ returns-2 c =
     let counts = pre .1 .1 .1 .1 .1 in
     let inside : start .args .plan .covered + start .args .i < 64 * start .args .plan .covered = omega (arith, fitting .window) in
     let reads = readable-at fitting ok _ here (omega arith) in
-    let back = handed-back _ _ (c .before .before .before .before .before .before .before .level-at .ensures) (reads .level) in
-    (
+    let back = handed-back _ _ (c .before .before .before .before .before .before .before .level-at .ensures) (reads .level) in (
       λ b lists w.
           let spotted = c .before .before .before .before .before .before .before .before .before .before .before .spot .ensures .0 b lists w in
           let usable = c .before .before .before .before .before .before .before .before .before .before .before .spot .ensures .1 in

@@ -88,8 +88,7 @@ returns c =
     let inside : start .args .plan .covered + start .args .i < 64 * start .args .plan .covered = omega (arith, fitting .window) in
     let wrote = c .before .before .before .before .write .ensures in
     let took = c .before .before .before .before .before .before .before .choice .ensures in
-    let nonzero = c .before .before .nonzero .ensures in
-    (
+    let nonzero = c .before .before .nonzero .ensures in (
       λ b lists w. step-settled _ fitting ok here _ (wrote .1) _ b lists w (passed-on _ _ (took .1) (took .0 b lists w)),
       (step-ready _ fitting ok here _ (wrote .1), (step-later _ fitting ok here _ (wrote .1) (counts .0) nonzero, step-total _ fitting ok here _ (wrote .1) (counts .1) (wrote .0) nonzero)),
     )

@@ -71,7 +71,7 @@ loop-again c =
     let back = handed-back _ _ (c .before .before .level-at .ensures) (w .level _ (omega arith) (omega (arith, inv .0))) in
     let result = c .before .nonzero .ensures ∙ ap nz back in
     let none : nz (levelAt (start .args .scan .now) (start .args .levels .now) (start .args .covered + at-loop .loop .start - 1)) ≡ 0 =
-        omega (arith, result, c .if1 .left, nz-le (levelAt (start .args .scan .now) (start .args .levels .now) (start .args .covered + at-loop .loop .start - 1))) in
+    omega (arith, result, c .if1 .left, nz-le (levelAt (start .args .scan .now) (start .args .levels .now) (start .args .covered + at-loop .loop .start - 1))) in
     (omega (arith, inv .0), sym (start-more _ _ _ _ here none) ∙ inv .1)
 
 returns-2 : tie.Need-returns-2 Inv-loop μ-loop

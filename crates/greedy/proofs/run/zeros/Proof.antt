@@ -37,8 +37,7 @@ add-token-bits c =
 token-bits-requires : tie.Need-token-bits-requires Inv-loop μ-loop
 token-bits-requires c κs =
     let start = c .before .before .before .before .before .before .before in
-    let inv = c .before .before .loop .inv in
-    (
+    let inv = c .before .before .loop .inv in (
       start .pre .0,
       (
         start .pre .1 .0,
@@ -57,8 +56,7 @@ loop-again : tie.Need-loop-again Inv-loop μ-loop
 loop-again c =
     let at-loop = c .before .before .before in
     let inv = at-loop .loop .inv in
-    let here = c .before .before .loop-test .taken in
-    (
+    let here = c .before .before .loop-test .taken in (
       (omega (arith, inv .0 .0), omega arith),
       (lit≤ tt, λ b w. zeros-next _ b _ _ _ _ _ _ _ w here refl (c .token-bits .ensures b w) ∙ inv .1 .1 b w),
     )
