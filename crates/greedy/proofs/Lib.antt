@@ -3,3 +3,4 @@ pub mod Runs
 pub mod Passing
 pub mod Stepping
 pub mod Settling
+pub mod Choosing
