@@ -6,13 +6,18 @@ use mathlib.Core.List.{List, [], _∷_, List·Memᴰ as Mem, List·Memᴰ·head 
 use Prim.Native.Nat.{ℕ, zero, suc, _+_, _-_, _*_, _≤_, _<_}
 use native.Mathlib.Omega.{arith}
 use native.Mathlib.Nat.{not-suc-le-zero, le-of-suc-le-suc, eq-or-lt-of-le}
-use lib.Dec.{T, ltb}
+use borrow.Author.Tests.{eq-eqb, eqb-false}
+use lib.Dec.{T, eqb, ltb}
 use lib.IntN.{ℤ, pos}
 use lib.ListN.{length, getD, set, length-set}
 use lib.Ieee.{Float, inf, lt}
 use Rattle.block.specs.Band.{positionAt, positionsFrom, pastWindow}
 use Rattle.block.specs.Block.{Block, covered, inputAt, inputRemaining, nonzerosAmong, ideal, candidatesAt}
+use Rattle.block.specs.Checks.{blockRefusal, searchRefusal}
+use Rattle.block.specs.declared.Answer.{Answer}
+use Rattle.block.specs.declared.Answer.the-variants.{Count}
 use Rattle.block_checks.specs.Passed.{Passed}
+use Rattle.block_checks.proofs.Laws.{passed}
 use Rattle.candidates.specs.Candidates.{candidatesOf, isCurrent}
 use Rattle.candidates.specs.Nearest.{isIdeal}
 use Rattle.candidates.proofs.Laws.{Listed, candidates-listed}
@@ -20,10 +25,12 @@ use Rattle.least_cost.specs.Choice.{Choice, done, takes, remaining}
 use Rattle.least_cost.specs.Position.{nz}
 use Rattle.least_cost.specs.Search.{holder}
 use Rattle.prices.specs.Book.{Book}
+use Rattle.prices.specs.Checks.{bookRefusal}
 use Rattle.scan.specs.Scan.{Perm, levelAt}
 use Rattle.scan.proofs.Through.{level-same, level-other}
+use Rattle.weights.specs.Window.{windowOf}
 use Rattle.weights.specs.declared.Window.{Window}
-use Rattle.greedy.specs.Greedy.{greedyCost, stays, chosen, withLevels, settledAt, settledFrom, greedyLevels}
+use Rattle.greedy.specs.Greedy.{greedyCost, stays, chosen, withLevels, settledAt, settledFrom, greedyLevels, greedyOutcome}
 use Rattle.greedy.specs.Choice.{levelsFrom, windowLevels, IsChoice}
 use Rattle.greedy.proofs.Passing.{among-split}
 
@@ -145,8 +152,25 @@ greedy-choice w v book b a =
         let rest : ℕ = 64 * covered b - (covered b + v .length) in
         let parts : 64 * covered b - covered b ≡ v .length + (64 * covered b - (covered b + v .length)) = omega (arith, a .window .fits) in
         let past : pastWindow v b ≡ nonzerosAmong (b .scan) x (covered b + v .length) (64 * covered b - (covered b + v .length)) =
-            sym (among-same (b .scan) x (b .levels) (covered b + v .length) (64 * covered b - (covered b + v .length)) (λ m l h. off m (omega (arith, a .window .fits)) (λ i k e. omega arith))) in
+        sym (among-same (b .scan) x (b .levels) (covered b + v .length) (64 * covered b - (covered b + v .length)) (λ m l h. off m (omega (arith, a .window .fits)) (λ i k e. omega arith))) in
         remaining-is (b .scan) x (pastWindow v b) (covered b) (v .length)
         ∙ ap (λ (s : ℕ). nonzerosAmong (b .scan) x (covered b) (v .length) + s) past
         ∙ sym (among-split (b .scan) x (covered b) (v .length) (64 * covered b - (covered b + v .length)))
         ∙ ap (nonzerosAmong (b .scan) x (covered b)) (sym parts)
+
+-- ---- the same of what the call leaves and answers, where it refuses nothing
+passes : (book : Book) (b : Block) → searchRefusal book b true ≡ 0 → blockRefusal (windowOf (covered b)) b 0 ≡ 0
+unfolding searchRefusal
+passes book b e = go (eqb (bookRefusal book) 0) refl e
+  where
+    go : (t : Bool) → eqb (bookRefusal book) 0 ≡ t → cond t (blockRefusal (windowOf (covered b)) b 0) (bookRefusal book) ≡ 0 → blockRefusal (windowOf (covered b)) b 0 ≡ 0
+    go true h k = k
+    go false h k = absurd (eqb-false (bookRefusal book) 0 h k)
+
+pub greedy-answers : (w : ℕ) (book : Book) (b : Block) → searchRefusal book b true ≡ 0
+    → IsChoice w (windowOf (covered b)) book b (greedyOutcome book b .levels)
+    × (greedyOutcome book b .answer ≡ Count (remaining (pastWindow (windowOf (covered b)) b) (windowLevels (windowOf (covered b)) b (greedyOutcome book b .levels))))
+unfolding greedyOutcome
+greedy-answers w book b e =
+    let choice = greedy-choice w (windowOf (covered b)) book b (passed b (passes book b e)) in
+    rw (eq-eqb (searchRefusal book b true) 0 e) (choice, ap Count (sym (choice .count)))
