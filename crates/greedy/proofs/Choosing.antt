@@ -7,22 +7,18 @@ use Prim.Native.Nat.{ℕ, zero, suc, _+_, _-_, _*_, _≤_, _<_}
 use native.Mathlib.Omega.{arith}
 use native.Mathlib.Nat.{not-suc-le-zero, le-of-suc-le-suc, eq-or-lt-of-le}
 use borrow.Author.Tests.{eq-eqb, eqb-false}
-use lib.Dec.{T, eqb, ltb}
-use lib.IntN.{ℤ, pos}
-use lib.ListN.{length, getD, set, length-set}
+use lib.Dec.{eqb, ltb}
+use lib.IntN.{ℤ}
+use lib.ListN.{length, length-set}
 use lib.Ieee.{Float, inf, lt}
 use Rattle.block.specs.Band.{positionAt, positionsFrom, pastWindow}
 use Rattle.block.specs.Block.{Block, covered, inputAt, inputRemaining, nonzerosAmong, ideal, candidatesAt}
 use Rattle.block.specs.Checks.{blockRefusal, searchRefusal}
-use Rattle.block.specs.declared.Answer.{Answer}
 use Rattle.block.specs.declared.Answer.the-variants.{Count}
 use Rattle.block_checks.specs.Passed.{Passed}
 use Rattle.block_checks.proofs.Laws.{passed}
-use Rattle.candidates.specs.Candidates.{candidatesOf, isCurrent}
-use Rattle.candidates.specs.Nearest.{isIdeal}
 use Rattle.candidates.proofs.Laws.{Listed, candidates-listed}
 use Rattle.least_cost.specs.Choice.{Choice, done, takes, remaining}
-use Rattle.least_cost.specs.Position.{nz}
 use Rattle.least_cost.specs.Search.{holder}
 use Rattle.prices.specs.Book.{Book}
 use Rattle.prices.specs.Checks.{bookRefusal}

@@ -1,13 +1,13 @@
 -- What a candidate costs, and the first least of the candidates, as the code comes to them. Assumes nothing.
 use mathlib.Core.Path.{_≡_, refl, sym, ap, _∙_}
 use mathlib.Core.Bool.{Bool, true, false, cond}
-use mathlib.Core.List.{List, [], _∷_}
-use Prim.Native.Nat.{ℕ, zero, suc, _+_, _-_, _*_, _/_, _≤_, _<_}
+use mathlib.Core.List.{List}
+use Prim.Native.Nat.{ℕ, suc, _+_, _-_, _*_, _/_, _≤_, _<_}
 use native.Mathlib.Omega.{arith}
 use native.Mathlib.Numerals.{add-one}
-use lib.Dec.{T, eqb, leb}
+use lib.Dec.{T}
 use lib.IntN.{ℤ, pos}
-use lib.ListN.{length, getD, take, drop, length-take}
+use lib.ListN.{length, getD, drop, length-take}
 use lib.Seq.{getD-take, drop-cons, drop-length}
 use lib.Ieee.{Float, inf, lt, add, mul, binary32}
 use mir.Syntax.{w32}
@@ -27,7 +27,7 @@ use Rattle.steps.specs.declared.reading.Plan.{Plan}
 use Rattle.steps.proofs.Local.{rate-same}
 use Rattle.steps.proofs.Zero.{level-back}
 use Rattle.greedy.specs.declared.cost.Best.{Best}
-use Rattle.greedy.specs.Greedy.{none, prevOf, bitsOf, costOf}
+use Rattle.greedy.specs.Greedy.{prevOf, bitsOf, costOf}
 use Rattle.greedy.specs.Reading.{considered}
 
 -- ---- `prev`

@@ -1,13 +1,12 @@
 -- One position of the pass: what is read there, the counts around it, and the level that it takes. Assumes nothing.
-use mathlib.Core.Path.{_≡_, refl, sym, ap, _∙_}
-use mathlib.Core.Bool.{Bool, true, false, cond, _&&_, _||_}
+use mathlib.Core.Path.{_≡_, sym, ap, _∙_}
+use mathlib.Core.Bool.{Bool, true, false, _&&_, _||_}
 use mathlib.Core.List.{List}
 use Prim.Native.Nat.{ℕ, zero, suc, _+_, _-_, _*_, _≤_, _<_}
 use native.Mathlib.Omega.{arith}
-use native.Mathlib.Nat.{le-trans, add-zero}
 use native.Mathlib.Numerals.{add-one}
 use lib.Dec.{T, eqb}
-use lib.IntN.{ℤ, pos}
+use lib.IntN.{ℤ}
 use lib.ListN.{length, getD}
 use lib.Ieee.{Float, inf}
 use borrow.Author.Tests.{eq-eqb, ne-eqb}
@@ -22,12 +21,11 @@ use Rattle.least_cost.specs.Position.{nz}
 use Rattle.least_cost.specs.Search.{holder}
 use Rattle.prices.specs.Book.{Book}
 use Rattle.scan.specs.Scan.{levelAt}
-use Rattle.steps.specs.Plan.{Planned, Lists, Readable, Spotted, Usable, listed, Whole}
+use Rattle.steps.specs.Plan.{Planned, Lists, Readable, Spotted, Usable, listed}
 use Rattle.steps.specs.declared.reading.Plan.{Plan}
 use Rattle.steps.specs.declared.reading.Spot.{Spot}
 use Rattle.steps.proofs.Counting.{among-most}
 use Rattle.weights.specs.Window.{windowOf}
-use Rattle.weights.specs.declared.Window.{Window}
 use Rattle.greedy.specs.Greedy.{none, othersOf, frontOf, runStart, zerosFrom, runOf, costOf, greedyCost, stays, chosen}
 use Rattle.greedy.specs.Reading.{Fitting, Ready, Windowed, countFrom}
 use Rattle.greedy.proofs.Costing.{listed-length}

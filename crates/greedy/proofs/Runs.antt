@@ -1,12 +1,11 @@
 -- The run in front of a position, one level after the other. Assumes nothing.
 use mathlib.Core.Path.{_≡_, refl, sym, ap, _∙_}
 use mathlib.Core.List.{List}
-use Prim.Native.Nat.{ℕ, zero, suc, _+_, _-_, _≤_, _<_}
+use Prim.Native.Nat.{ℕ, suc, _+_, _-_, _<_}
 use native.Mathlib.Omega.{arith}
 use native.Mathlib.Numerals.{add-one}
 use lib.IntN.{ℤ, pos}
 use lib.Ieee.{Float, add, binary32}
-use borrow.Author.Tests.{eq-eqb, ne-eqb}
 use Rattle.block.specs.Block.{Block, covered}
 use Rattle.block.specs.Cost.{tokenPrice}
 use Rattle.least_cost.specs.Position.{nz}

@@ -1,20 +1,19 @@
 -- The pass over the whole window, and what the call answers. Assumes nothing.
-use mathlib.Core.Path.{_≡_, refl, sym, ap, _∙_}
+use mathlib.Core.Path.{_≡_, refl, ap, _∙_}
 use mathlib.Core.Bool.{Bool, true, false, cond, _&&_}
 use mathlib.Core.List.{List, []}
-use Prim.Native.Nat.{ℕ, zero, suc, _+_, _-_, _*_, _≤_, _<_, min}
+use Prim.Native.Nat.{ℕ, suc, _+_, _-_, _*_, _≤_, _<_, min}
 use native.Mathlib.Omega.{arith}
 use native.Mathlib.Nat.{le-refl, le-trans, min-le-left, min-le-right}
-use lib.Dec.{T, eqb, lit≤}
-use lib.IntN.{ℤ, pos}
-use lib.ListN.{length, getD}
+use lib.Dec.{lit≤}
+use lib.IntN.{ℤ}
+use lib.ListN.{length}
 use lib.Ieee.{Float}
 use borrow.Author.Tests.{eq-eqb, ne-eqb}
 use Rattle.bias.specs.declared.DequantBias.{DequantBias}
-use Rattle.block.specs.Block.{Block, blockOf, covered, contextOf, inputAt, inputRemaining, ideal, idealAt, nonzerosAmong}
+use Rattle.block.specs.Block.{Block, blockOf, covered, contextOf, inputAt, inputRemaining, ideal, nonzerosAmong}
 use Rattle.ac_context.specs.Contexts.{isPowerBelow}
 use Rattle.block.specs.Checks.{check7, blockRefusal, searchRefusal}
-use Rattle.block.specs.declared.Answer.{Answer}
 use Rattle.block.specs.declared.Answer.the-variants.{Count, Refused}
 use Rattle.block.specs.declared.Shape.{Shape}
 use Rattle.block_checks.specs.Passed.{Passed}
@@ -22,7 +21,6 @@ use Rattle.block_checks.proofs.Laws.{refused-room}
 use Rattle.laws.proofs.Tests.{and-left, and-right}
 use Rattle.prices.specs.Book.{Book}
 use Rattle.prices.specs.Checks.{bookRefusal}
-use Rattle.scan.specs.Scan.{Perm, levelAt}
 use Rattle.steps.proofs.Counting.{among-most}
 use Rattle.steps.specs.Plan.{Planned, Lists, Whole}
 use Rattle.steps.specs.declared.reading.Plan.{Plan}

@@ -1,15 +1,13 @@
 -- One step of the pass: what the written level leaves. Assumes nothing.
-use mathlib.Core.Path.{_≡_, refl, sym, ap, _∙_}
+use mathlib.Core.Path.{_≡_, refl, ap}
 use mathlib.Core.List.{List}
 use Prim.Native.Nat.{ℕ, zero, suc, _+_, _-_, _*_, _≤_, _<_}
 use native.Mathlib.Omega.{arith}
 use native.Mathlib.Nat.{le-refl}
-use lib.Dec.{T}
-use lib.IntN.{ℤ, pos}
+use lib.IntN.{ℤ}
 use lib.ListN.{length, getD, set, length-set}
 use lib.Ieee.{Float}
 use Rattle.block.specs.Block.{Block, covered, nonzerosAmong}
-use Rattle.candidates.specs.Candidates.{isCurrent}
 use Rattle.least_cost.specs.Position.{nz}
 use Rattle.prices.specs.Book.{Book}
 use Rattle.scan.specs.Scan.{Perm, levelAt}

@@ -1,6 +1,6 @@
 -- The greedy search: one pass over the window, from the last position to the first. Each position takes its cheapest candidate, given the levels chosen behind it;
 -- in front of it stand the input's. So each step is told of the block as it stands: its levels are the chosen ones behind the position and the input's elsewhere.
-use Prim.Native.Nat.{ℕ, zero, suc, _+_, _-_, _*_}
+use Prim.Native.Nat.{ℕ, zero, suc, _+_, _-_}
 use mathlib.Core.Bool.{Bool, true, false, cond, _&&_, _||_}
 use mathlib.Core.List.{List}
 use lib.Dec.{eqb}

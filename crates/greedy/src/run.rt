@@ -8,7 +8,7 @@ ghost use Rattle.prices.specs.Book.{bookOf};
 ghost use Rattle.prices.specs.Checks.{bookRefusal};
 ghost use Rattle.steps.specs.Plan.{Planned, Coded};
 ghost use Rattle.greedy.specs.Greedy.{none, runStart, zerosFrom};
-ghost use Rattle.greedy.specs.Reading.{Fitting, Windowed};
+ghost use Rattle.greedy.specs.Reading.{Windowed};
 
 // Where the zeros begin that stand right in front of window position i.
 pub(crate) fn run_start(scan: &[u32], levels: &[i32], covered: usize, i: usize) -> usize

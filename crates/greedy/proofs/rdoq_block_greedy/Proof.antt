@@ -1,7 +1,7 @@
 use Rattle.block_checks.proofs.Laws.{passed, refused-book, refused-block}
 use Rattle.greedy.proofs.Settling.{planned-lists, own-lists, sides, fitting-of, ready-of, counted-few, refused-outcome, settled-outcome}
 use mathlib.Core.Bool.{true}
-use mathlib.Core.Path.{_≡_, refl, sym, ap, _∙_}
+use mathlib.Core.Path.{sym, _∙_}
 use native.Mathlib.Omega.{arith}
 use borrow.Author.Needs.{needs}
 use Rattle.greedy.proofs.rdoq_block_greedy.Statement.{statement}

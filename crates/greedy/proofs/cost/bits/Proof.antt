@@ -5,7 +5,6 @@ use Rattle.steps.proofs.Zero.{level-back, zero-nz, other-nz}
 use lib.Ieee.{ofBits}
 use native.Mathlib.Omega.{arith}
 use borrow.Author.Tests.{eq-eqb}
-use borrow.Author.Needs.{needs}
 use Rattle.greedy.proofs.cost.bits.Statement.{statement}
 use Rattle.greedy.proofs.cost.bits.Tie as tie
 

@@ -1,10 +1,8 @@
 use Rattle.greedy.proofs.Costing.{cost-is}
 use Rattle.ac_context.proofs.Bounds.{covered-most}
 use Rattle.least_cost.proofs.Trial.{nz-le}
-use Rattle.least_cost.specs.Position.{nz}
 use Rattle.steps.proofs.Zero.{level-back}
 use Prim.Native.Nat.{_≤_}
-use mathlib.Core.Path.{_≡_, ap, _∙_}
 use native.Mathlib.Omega.{arith}
 use borrow.Author.Needs.{needs}
 use Rattle.greedy.proofs.cost.candidate_cost.Statement.{statement}

@@ -1,6 +1,6 @@
 use mir.Syntax.{w32}
 use mir.Val.{toZ}
-use Rattle.greedy.proofs.Costing.{listed-length, usable-back, usable-level, usable-listed, listed-below, considered-level, holder-next, holder-done}
+use Rattle.greedy.proofs.Costing.{listed-length, usable-level, usable-listed, listed-below, considered-level, holder-next, holder-done}
 use Rattle.greedy.specs.Greedy.{costOf}
 use Rattle.bias.specs.Level.{isLevel}
 use Rattle.block.specs.Block.{Block}
@@ -13,9 +13,9 @@ use lib.Dec.{T}
 use lib.Ieee.{inf}
 use lib.ListN.{drop}
 use mathlib.Core.Bool.{false}
-use mathlib.Core.Path.{_≡_, ap, sym, refl, _∙_}
+use mathlib.Core.Path.{_≡_, sym, _∙_}
 use native.Mathlib.Omega.{arith}
-use Prim.Native.Nat.{ℕ, _≤_, _-_}
+use Prim.Native.Nat.{_≤_, _-_}
 use borrow.Author.Needs.{needs}
 use Rattle.greedy.proofs.cost.cheapest.Statement.{statement}
 use Rattle.greedy.proofs.cost.cheapest.Tie as tie

@@ -1,6 +1,5 @@
 use Rattle.greedy.proofs.Costing.{prev-few, prev-many, prev-front}
 use lib.Dec.{lit≤}
-use native.Mathlib.Omega.{arith}
 use borrow.Author.Needs.{needs}
 use Rattle.greedy.proofs.cost.prev_at.Statement.{statement}
 use Rattle.greedy.proofs.cost.prev_at.Tie as tie

@@ -1,8 +1,7 @@
-use lib.Dec.{T, leb→le}
+use lib.Dec.{leb→le}
 use Rattle.steps.proofs.Zero.{level-back, packed-value}
 use Rattle.block.specs.Cost.{tokenPrice}
 use native.Mathlib.Omega.{arith}
-use mathlib.Core.Path.{_≡_}
 use borrow.Author.Needs.{needs}
 use Rattle.greedy.proofs.cost.token_bits.Statement.{statement}
 use Rattle.greedy.proofs.cost.token_bits.Tie as tie

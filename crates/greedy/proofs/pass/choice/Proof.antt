@@ -1,9 +1,8 @@
-use Rattle.greedy.proofs.Passing.{windowed-of, readable-at, scan-long, later-is, others-is, others-few, later-few, inputs, chosen-stays, chosen-least, handed-level, passed-on, passed-level}
-use Rattle.block.specs.Block.{inputAt}
+use Rattle.greedy.proofs.Passing.{windowed-of, readable-at, later-is, others-is, others-few, later-few, inputs, chosen-stays, chosen-least, handed-level, passed-on, passed-level}
 use Rattle.least_cost.specs.Position.{nz}
 use Rattle.steps.proofs.Zero.{handed-back}
-use Prim.Native.Nat.{_<_, _≤_, _+_, _*_}
-use mathlib.Core.Path.{_≡_, ap, _∙_}
+use Prim.Native.Nat.{_<_, _+_, _*_}
+use mathlib.Core.Path.{ap, _∙_}
 use native.Mathlib.Omega.{arith}
 use borrow.Author.Needs.{needs}
 use Rattle.greedy.proofs.pass.choice.Statement.{statement}

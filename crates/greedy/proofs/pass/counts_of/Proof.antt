@@ -1,5 +1,4 @@
 use Rattle.greedy.proofs.Settling.{whole-later, total-is, counted-few}
-use mathlib.Core.Path.{_≡_}
 use native.Mathlib.Omega.{arith}
 use borrow.Author.Needs.{needs}
 use Rattle.greedy.proofs.pass.counts_of.Statement.{statement}

@@ -3,7 +3,7 @@ use Rattle.least_cost.proofs.Trial.{nz-le}
 use Rattle.least_cost.specs.Position.{nz}
 use Rattle.steps.proofs.Zero.{handed-back}
 use Prim.Native.Nat.{_<_}
-use mathlib.Core.Path.{_≡_, ap, _∙_}
+use mathlib.Core.Path.{ap, _∙_}
 use native.Mathlib.Omega.{arith}
 use lib.Dec.{lit≤}
 use borrow.Author.Needs.{needs}

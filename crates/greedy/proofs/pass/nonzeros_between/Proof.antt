@@ -6,7 +6,7 @@ use Rattle.block.specs.Block.{nonzerosAmong}
 use lib.ListN.{length}
 use native.Mathlib.Nat.{le-refl}
 use native.Mathlib.Omega.{arith}
-use Prim.Native.Nat.{ℕ, _≤_, _-_, _<_}
+use Prim.Native.Nat.{_≤_, _-_}
 use mathlib.Core.Path.{_≡_, sym, _∙_, ap}
 use borrow.Author.Needs.{needs}
 use Rattle.greedy.proofs.pass.nonzeros_between.Statement.{statement}

@@ -1,9 +1,5 @@
 use Rattle.greedy.proofs.Passing.{run-none, run-some}
-use Prim.Native.Nat.{_<_}
-use mathlib.Core.Path.{_≡_, ap, _∙_}
-use native.Mathlib.Omega.{arith}
 use lib.Ieee.{ofBits}
-use borrow.Author.Needs.{needs}
 use Rattle.greedy.proofs.pass.run_bits.Statement.{statement}
 use Rattle.greedy.proofs.pass.run_bits.Tie as tie
 

@@ -1,7 +1,6 @@
 use Rattle.greedy.proofs.Settling.{whole-of, SoFar, so-far-none, next-ready, next-below, next-later, so-far-more, so-far-all}
 use Rattle.prices.specs.Book.{bookOf}
-use Prim.Native.Nat.{_<_, _≤_, _+_, _*_}
-use mathlib.Core.Path.{_≡_, sym, ap, _∙_}
+use mathlib.Core.Path.{sym, _∙_}
 use native.Mathlib.Omega.{arith}
 use borrow.Author.Needs.{needs}
 use Rattle.greedy.proofs.pass.settle.Statement.{statement}

@@ -1,6 +1,5 @@
 use Rattle.steps.proofs.Zero.{zero-nz, other-nz}
 use borrow.Author.Tests.{eq-eqb, ne-eqb}
-use borrow.Author.Needs.{needs}
 use Rattle.greedy.proofs.pass.stays.Statement.{statement}
 use Rattle.greedy.proofs.pass.stays.Tie as tie
 

@@ -1,11 +1,8 @@
 use Rattle.greedy.proofs.Passing.{readable-at, others-few, later-few, passed-on}
 use Rattle.greedy.proofs.Stepping.{step-ready, step-later, step-total, step-settled}
 use Rattle.least_cost.proofs.Trial.{nz-le}
-use Rattle.least_cost.specs.Position.{nz}
-use Rattle.steps.proofs.Zero.{level-back}
 use Prim.Native.Nat.{_<_, _≤_, _+_, _*_}
 use lib.ListN.{length-set}
-use mathlib.Core.Path.{_≡_, ap, _∙_}
 use native.Mathlib.Omega.{arith}
 use borrow.Author.Needs.{needs}
 use Rattle.greedy.proofs.pass.step.Statement.{statement}

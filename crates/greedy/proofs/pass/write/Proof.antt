@@ -3,10 +3,7 @@ use Rattle.least_cost.specs.Position.{nz}
 use Rattle.scan.specs.Scan.{levelAt}
 use mir.Syntax.{w32}
 use mir.ValLaws.{toZ-ofZ}
-use lib.ListN.{getD}
-use lib.IntN.{pos}
-use mathlib.Core.Path.{_≡_, ap, _∙_}
-use native.Mathlib.Omega.{arith}
+use mathlib.Core.Path.{ap, _∙_}
 use borrow.Author.Needs.{needs}
 use Rattle.greedy.proofs.pass.write.Statement.{statement}
 use Rattle.greedy.proofs.pass.write.Tie as tie

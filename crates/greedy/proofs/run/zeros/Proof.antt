@@ -6,8 +6,8 @@ use Rattle.prices.specs.Book.{bookOf}
 use Rattle.steps.specs.Plan.{Planned}
 use lib.Dec.{lit≤}
 use lib.Ieee.{ofBits}
-use Prim.Native.Nat.{ℕ, _≤_, _-_}
-use mathlib.Core.Path.{_≡_, ap, sym, refl, _∙_}
+use Prim.Native.Nat.{_≤_, _-_}
+use mathlib.Core.Path.{_≡_, sym, refl, _∙_}
 use native.Mathlib.Nat.{le-refl}
 use native.Mathlib.Omega.{arith}
 use borrow.Author.Needs.{needs}

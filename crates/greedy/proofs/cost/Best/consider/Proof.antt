@@ -1,7 +1,6 @@
 use mir.Syntax.{w32}
 use mir.ValLaws.{toZ-ofZ}
 use Rattle.greedy.specs.Reading.{considered}
-use borrow.Author.Needs.{needs}
 use Rattle.greedy.proofs.cost.Best.consider.Statement.{statement}
 use Rattle.greedy.proofs.cost.Best.consider.Tie as tie
 
