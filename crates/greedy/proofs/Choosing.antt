@@ -3,22 +3,24 @@ use mathlib.Core.Path.{_≡_, refl, sym, ap, _∙_, subst, subst⁻¹}
 use mathlib.Core.Logic.{_⊎_, inl, inr}
 use mathlib.Core.Bool.{Bool, true, false, cond}
 use mathlib.Core.List.{List, [], _∷_, List·Memᴰ as Mem, List·Memᴰ·head as here, List·Memᴰ·tail as there, Memᴰ·cast as cast}
-use Prim.Native.Nat.{ℕ, zero, suc, _+_, _-_, _*_, _≤_, _<_}
+use Prim.Native.Nat.{ℕ, zero, suc, _+_, _-_, _*_, _/_, _≤_, _<_}
 use native.Mathlib.Omega.{arith}
 use native.Mathlib.Nat.{not-suc-le-zero, le-of-suc-le-suc, eq-or-lt-of-le}
-use borrow.Author.Tests.{eq-eqb, eqb-false}
+use borrow.Author.Tests.{eq-eqb, eqb-true, eqb-false, le-leb}
 use lib.Dec.{eqb, ltb}
 use lib.IntN.{ℤ}
 use lib.ListN.{length, length-set}
 use lib.Ieee.{Float, inf, lt}
-use Rattle.block.specs.Band.{positionAt, positionsFrom, pastWindow}
+use Rattle.block.specs.Band.{inputAfter, positionAt, positionsFrom, pastWindow}
 use Rattle.block.specs.Block.{Block, covered, inputAt, inputRemaining, nonzerosAmong, ideal, candidatesAt}
 use Rattle.block.specs.Checks.{blockRefusal, searchRefusal}
+use Rattle.block.specs.Cost.{firstPrev}
 use Rattle.block.specs.declared.Answer.the-variants.{Count}
 use Rattle.block_checks.specs.Passed.{Passed}
 use Rattle.block_checks.proofs.Laws.{passed}
 use Rattle.candidates.proofs.Laws.{Listed, candidates-listed}
 use Rattle.least_cost.specs.Choice.{Choice, done, takes, remaining}
+use Rattle.least_cost.specs.Position.{nz}
 use Rattle.least_cost.specs.Search.{holder}
 use Rattle.prices.specs.Book.{Book}
 use Rattle.prices.specs.Checks.{bookRefusal}
@@ -26,7 +28,7 @@ use Rattle.scan.specs.Scan.{Perm, levelAt}
 use Rattle.scan.proofs.Through.{level-same, level-other}
 use Rattle.weights.specs.Window.{windowOf}
 use Rattle.weights.specs.declared.Window.{Window}
-use Rattle.greedy.specs.Greedy.{greedyCost, stays, chosen, withLevels, settledAt, settledFrom, greedyLevels, greedyOutcome}
+use Rattle.greedy.specs.Greedy.{othersOf, runStart, greedyCost, stays, chosen, withLevels, settledAt, settledFrom, greedyLevels, greedyOutcome}
 use Rattle.greedy.specs.Choice.{levelsFrom, windowLevels, IsChoice}
 use Rattle.greedy.proofs.Passing.{among-split}
 
@@ -170,3 +172,26 @@ unfolding greedyOutcome
 greedy-answers w book b e =
     let choice = greedy-choice w (windowOf (covered b)) book b (passed b (passes book b e)) in
     rw (eq-eqb (searchRefusal book b true) 0 e) (choice, ap Count (sym (choice .count)))
+
+-- ---- `prev` of a run's first zero is 1 at the first position too: where no nonzero level stands behind the run, the whole count is 1
+all-zero : (scan : List ℕ) (levels : List ℤ) (c i : ℕ) → runStart scan levels c i ≡ 0 → nonzerosAmong scan levels c i ≡ 0
+unfolding nonzerosAmong runStart
+all-zero scan levels c zero e = refl
+all-zero scan levels c (suc i) e = go (eqb (nz (levelAt scan levels (c + i))) 0) refl e (all-zero scan levels c i)
+  where
+    one : nonzerosAmong scan levels c (suc i) ≡ nonzerosAmong scan levels c i + (nz (levelAt scan levels (c + i)) + 0)
+    one =
+        let more : suc i ≡ i + 1 = omega arith in
+        ap (nonzerosAmong scan levels c) more ∙ among-split scan levels c i 1
+
+    go : (t : Bool) → eqb (nz (levelAt scan levels (c + i))) 0 ≡ t → cond t (runStart scan levels c i) (suc i) ≡ 0 → (runStart scan levels c i ≡ 0 → nonzerosAmong scan levels c i ≡ 0)
+        → nonzerosAmong scan levels c (suc i) ≡ 0
+    go true h k f = omega (arith, one, f k, eqb-true (nz (levelAt scan levels (c + i))) 0 h)
+    go false h k f = absurd (omega arith)
+
+pub run-first : (b : Block) (i : ℕ) → 1 ≤ covered b → inputAfter b i ≡ 0 → runStart (b .scan) (b .levels) (covered b) i ≡ 0 → firstPrev b (othersOf b i + 1) ≡ 1
+unfolding othersOf firstPrev
+run-first b i some none start =
+    let zeros = all-zero (b .scan) (b .levels) (covered b) i start in
+    let count : inputAfter b i + nonzerosAmong (b .scan) (b .levels) (covered b) i + 1 ≡ 1 = omega arith in
+    rw (count, le-leb 1 (64 * covered b / 16) (omega arith))
