@@ -169,6 +169,8 @@ module _ (v : Window) (b : Block) where
       let t12 = through (check12 b) _ 11 (t11 .1) in
       let t13 = through (check13 v b) _ 12 (t12 .1) in
       record {
+        first-side = f .first;
+        second-side = f .second;
         log2 = f .log2;
         power = f .power;
         some = covered-some (f .power);

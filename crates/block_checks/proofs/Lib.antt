@@ -1,4 +1,5 @@
 mod Sides
 pub mod Laws
+pub mod Reading
 mod Returns
 mod Room

@@ -1,9 +1,10 @@
 -- What a search goes by once checks 7 to 13 have passed.
 use Prim.Native.Nat.{ℕ, _+_, _*_, _≤_, _<_}
 use mathlib.Core.Path.{_≡_}
+use mathlib.Core.Bool.{true}
 use lib.Dec.{T}
 use lib.ListN.{length}
-use Rattle.ac_context.specs.Contexts.{Covered}
+use Rattle.ac_context.specs.Contexts.{Covered, isPowerBelow}
 use Rattle.bias.specs.Level.{validBias}
 use Rattle.block.specs.Block.{Block, covered, inputAt, ideal}
 use Rattle.candidates.specs.Candidates.{isCurrent}
@@ -21,6 +22,8 @@ pub record Windowed (c : ℕ) (v : Window) : Type 0 where
 
 -- a block and a window of it
 pub record Passed (v : Window) (b : Block) : Type 0 where
+  pub first-side : isPowerBelow 6 (b .shape .cx) ≡ true
+  pub second-side : isPowerBelow 6 (b .shape .cy) ≡ true
   pub log2 : ℕ
   pub power : Covered (covered b) log2
   pub some : 1 ≤ covered b

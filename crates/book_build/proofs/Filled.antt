@@ -1,17 +1,16 @@
 -- A book whose ready prices were filled passes checks 1 to 6.
-use Prim.Native.Nat.{ℕ, _+_, _*_, _/_, _%_, _<_, _≤_}
-use mathlib.Core.Path.{_≡_, refl, sym, ap, ap₂, _∙_, subst}
-use mathlib.Core.Bool.{Bool, true, false, cond}
+use Prim.Native.Nat.{ℕ, _+_, _*_, _<_}
+use mathlib.Core.Path.{_≡_, ap, ap₂, _∙_}
+use mathlib.Core.Bool.{Bool, true, cond}
 use mathlib.Core.List.{List}
 use native.Mathlib.Omega.{arith}
-use lib.Dec.{eqb}
-use lib.ListN.{length, getD}
+use lib.ListN.{length}
 use lib.Ieee.{Float, nan, toBits, binary32}
 use borrow.Author.Tests.{eq-eqb, ne-eqb}
 use Rattle.prices.specs.Book.{Book, at, clusterPrice}
-use Rattle.prices.specs.Checks.{each, sameBits, rowKept, check1, check2, check3, check4, check5, check6, firstFive, fillRefusal, bookRefusal}
+use Rattle.prices.specs.Checks.{sameBits, rowKept, check1, check2, check3, check4, check5, check6, firstTwo, firstFive, fillRefusal, bookRefusal}
 use Rattle.prices.proofs.Each.{each-all}
-use Rattle.prices.proofs.Passed.{Sound, sound, six}
+use Rattle.prices.proofs.Passed.{sound, six}
 use Rattle.book_build.specs.Paint.{paint}
 use Rattle.book_build.specs.Fill.{readyEntry, filledReady, filled}
 use Rattle.book_build.proofs.Painted.{paint-length, paint-at}
@@ -29,7 +28,7 @@ same-length b e = ap length (accepted b e) ∙ paint-length _ 0 (256 * b .cluste
 
 -- Checks 1 to 5 look at the number of ready prices alone.
 still-sound : (b : Book) → fillRefusal b ≡ 0 → fillRefusal (filled b) ≡ 0
-unfolding fillRefusal firstFive filled check1 check2 check3 check4 check5
+unfolding fillRefusal firstFive firstTwo filled check1 check2 check3 check4 check5
 still-sound b e = rw (same-length b e) e
 
 entry : (b : Book) → fillRefusal b ≡ 0 → (k v : ℕ) → k < b .clusters → v < 256 → at (filledReady b) (256 * k + v) ≡ clusterPrice (b .configs) (b .symbols) k v

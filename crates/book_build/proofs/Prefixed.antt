@@ -1,13 +1,13 @@
 -- The symbol prices of a prefix code: written row by row, and passing check 5.
-use Prim.Native.Nat.{ℕ, zero, suc, _+_, _-_, _*_, _/_, _^_, _<_, _≤_}
+use Prim.Native.Nat.{ℕ, suc, _+_, _*_, _/_, _<_, _≤_}
 use mathlib.Core.Path.{_≡_, refl, sym, ap, ap₂, _∙_, subst}
-use mathlib.Core.Bool.{Bool, true, false, cond, _&&_}
+use mathlib.Core.Bool.{Bool, true, false, cond, _&&_, and-false}
 use mathlib.Core.List.{List}
 use native.Mathlib.Omega.{arith}
 use lib.Dec.{eqb, leb}
 use lib.IntN.{pos}
 use lib.ListN.{length, getD}
-use lib.Ieee.{Float, nan, inf, fin, ofInt, le, lt, eq, binary32}
+use lib.Ieee.{Float, nan, fin, ofInt, le, lt, eq, binary32}
 use borrow.Author.Tests.{eqb-true, eq-eqb, ne-eqb, le-leb, lt-leb}
 use Rattle.prices.specs.Book.{at}
 use Rattle.prices.specs.Checks.{each, symbolPrice, allPriced}
@@ -15,10 +15,6 @@ use Rattle.prices.proofs.Each.{each-all, each-below}
 use Rattle.book_build.specs.Paint.{paint}
 use Rattle.book_build.specs.Prefix.{Prefix, prefixEntry, rowEntry, singleOf, unseenPrice, depthPrice, prefixRefusal, prefixSymbols}
 use Rattle.book_build.proofs.Painted.{paint-length, paint-run, paint-same, paint-at}
-
-and-false : (b : Bool) → (b && false) ≡ false
-and-false true = refl
-and-false false = refl
 
 -- one more row
 pub row-after : (p : Prefix) (k : ℕ) (unseen : Float) (single : Bool) (xs ys zs : List Float)

@@ -4,7 +4,7 @@ ghost use Prim.Native.Nat.{ℕ, _≤_, _<_, _+_, _*_};
 ghost use lib.ListN.{length};
 ghost use Rattle.prices.specs.Book.{bookOf, clusterValid};
 ghost use Rattle.prices.specs.Checks.{fillRefusal};
-ghost use Rattle.book_checks.specs.Row.{Row};
+ghost use Rattle.book_rows.specs.Row.{Row};
 ghost use Rattle.book_build.specs.Paint.{paint};
 ghost use Rattle.book_build.specs.Fill.{readyEntry, filledReady};
 ghost use Rattle.book_build.specs.Prefix.{prefixOf, depthPrice, unseenPrice, singleOf, prefixEntry, rowEntry, prefixRefusal, prefixSymbols};

@@ -1,20 +1,12 @@
--- What the checks' loops and tests rest on.
-use Prim.Native.Nat.{ℕ, zero, suc, _+_, _-_, _*_, _<_, _≤_, max}
-use mathlib.Core.Path.{_≡_, refl, sym, ap, ap₂, _∙_, subst}
-use mathlib.Core.Bool.{Bool, true, false, not, _&&_, false≢true}
+-- A loop that takes a maximum.
+use Prim.Native.Nat.{ℕ, _+_, max}
+use mathlib.Core.Path.{_≡_, refl, sym}
+use mathlib.Core.Bool.{Bool, true, false, _&&_}
 use native.Mathlib.Omega.{arith}
 use native.Mathlib.Numerals.{add-one}
-use lib.Dec.{T, leb, ltb, eqb}
-use lib.Ieee.{Float, nan, inf, fin, isNan, ne, eq, fits, toBits, binary32}
-use lib.Ieee.Compare.{differs-from-itself, nan-differs}
-use borrow.Author.Tests.{lt-ltb, le-ltb, ltb-true, ltb-false, eqb-true, eq-eqb, ne-eqb}
-use mathlib.Core.List.{List}
-use Rattle.costs.specs.Cost.{cost}
-use Rattle.prices.specs.Book.{Book, clusterPrice, clusterSymbol}
-use Rattle.prices.proofs.Costs.{cluster-cost, symbol-within}
-use Rattle.book_checks.specs.Row.{Row}
-use Rattle.prices.specs.Checks.{each, sameBits}
-use Rattle.prices.proofs.Passed.{Sound, same-float}
+use lib.Dec.{ltb}
+use borrow.Author.Tests.{lt-ltb, le-ltb, ltb-true, ltb-false}
+use Rattle.prices.specs.Checks.{each}
 
 max-below : (a b n : ℕ) → ltb (max a b) n ≡ (ltb a n && ltb b n)
 max-below a b n = go (ltb a n) (ltb b n) refl refl
@@ -28,49 +20,3 @@ max-below a b n = go (ltb a n) (ltb b n) refl refl
 pub each-max : (p : ℕ → Bool) (i top e n : ℕ) → each i p ≡ ltb top n → p i ≡ ltb e n → each (i + 1) p ≡ ltb (max top e) n
 unfolding each
 each-max p i top e n h k = rw (add-one i, h, k) (sym (max-below top e n))
-
-pub no-nan : (x : Float) → ne x x ≡ false → T (not (isNan x))
-unfolding isNan
-no-nan nan e = absurd (false≢true (sym e ∙ nan-differs))
-no-nan (inf s) e = tt
-no-nan (fin s m d) e = tt
-
-pub cost-no-nan : (x : Float) → T (cost x) → T (not (isNan x))
-unfolding isNan cost
-cost-no-nan nan h = h
-cost-no-nan (inf s) h = tt
-cost-no-nan (fin s m e) h = tt
-
--- a NaN has not the bits of a cost
-pub nan-bits : (x y : Float) → ne x x ≡ true → T (cost y) → T (fits binary32 x) → T (fits binary32 y) → sameBits x y ≡ false
-unfolding cost
-nan-bits x y e h fx fy = go (sameBits x y) refl
-  where
-    go : (b : Bool) → sameBits x y ≡ b → b ≡ false
-    go true d =
-        let is-nan : x ≡ nan = differs-from-itself x (subst T (sym e) tt) in
-        absurd (subst (λ (z : Float). T (cost z)) (sym (same-float fx fy d) ∙ is-nan) h)
-    go false d = refl
-
-pub same-bits : (x y : Float) → toBits binary32 x ≡ toBits binary32 y → sameBits x y ≡ true
-unfolding sameBits
-same-bits x y e = eq-eqb _ _ e
-
-pub other-bits : (x y : Float) → (toBits binary32 x ≡ toBits binary32 y → ⊥) → sameBits x y ≡ false
-unfolding sameBits
-other-bits x y e = ne-eqb _ _ e
-
--- every price of a cluster is a cost
-pub row-cost : {configs : List ℕ} {symbols ready : List Float} {k : ℕ} → Row configs symbols ready k → (v : ℕ) → v ≤ 131071 → T (cost (clusterPrice configs symbols k v))
-row-cost {configs} {symbols} {ready} {k} r v h =
-    cluster-cost configs symbols k v h (r .prices (clusterSymbol configs k v) (symbol-within configs k v (r .valid) h))
-
-pub sound-row : (b : Book) → Sound b → (k : ℕ) → k < b .clusters → Row (b .configs) (b .symbols) (b .ready) k
-sound-row b p k h =
-    record {
-      configured = omega (arith, p .configs-long);
-      priced = omega (arith, p .symbols-long);
-      kept = omega (arith, p .ready-long);
-      valid = p .valid k h;
-      prices = λ i q. p .priced (128 * k + i) (omega arith);
-    }

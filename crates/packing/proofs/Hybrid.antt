@@ -2,13 +2,13 @@
 -- Both sides have one common form (`Form`): a token with its extra bits and the value, taken apart into the same digits.
 use Prim.Native.Nat.{ℕ, zero, suc, _+_, _-_, _*_, _/_, _%_, _^_, _≤_, _<_}
 use mathlib.Core.Path.{_≡_, refl, ap, ap₂, _∙_, subst, subst⁻¹, sym}
-use mathlib.Core.Bool.{Bool, true, false, cond, _&&_, false≢true}
+use mathlib.Core.Bool.{Bool, true, false, _&&_, false≢true}
 use native.Mathlib.Omega.{arith}
-use native.Mathlib.Nat.{le-trans, lt-of-lt-of-le, lt-of-le-of-lt, pow-suc, mod-lt, div-eq-of-lt-le, mul-le-mul-right, le-of-lt, lt-irrefl, le-add-right, le-of-eq, add-comm, one-mul, pow-succ', le-div-iff-mul-le}
+use native.Mathlib.Nat.{le-trans, lt-of-lt-of-le, lt-of-le-of-lt, mod-lt, div-eq-of-lt-le, mul-le-mul-right, lt-irrefl, le-add-right, le-of-eq, add-comm, one-mul, pow-succ', le-div-iff-mul-le}
 use lib.Pow as Pow
 use lib.Arith.{digits-lt}
 use lib.Dec.{ltb, leb}
-use lib.Pow.{pow-pos, pow-mono, pow-add, shr-shr, high, low, shr-mono}
+use lib.Pow.{pow-pos, pow-mono, pow-add, shr-shr, high, low}
 use lib.Ieee.{size}
 use lib.Ieee.Digits.{size-lt, size-reaches, size-le}
 use borrow.Author.Tests.{lt-ltb, le-ltb, ltb-true, ltb-false, leb-true, leb-false}

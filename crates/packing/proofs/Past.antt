@@ -1,14 +1,12 @@
 -- What the code's sums and shifts need of a value from 2 ^ s on.
-use Prim.Native.Nat.{ℕ, suc, _+_, _-_, _*_, _/_, _%_, _^_, _≤_, _<_}
-use mathlib.Core.Path.{_≡_, refl, ap, _∙_, subst, subst⁻¹, sym}
+use Prim.Native.Nat.{ℕ, _+_, _-_, _*_, _/_, _%_, _^_, _≤_, _<_}
+use mathlib.Core.Path.{_≡_}
 use mathlib.Core.Bool.{true}
-use native.Mathlib.Omega.{arith}
 use native.Mathlib.Nat.{lt-of-lt-of-le}
 use lib.Pow.{pow-pos}
-use borrow.Author.Tests.{lt-ltb, le-ltb}
-use Rattle.packing.specs.Hybrid.{topBit, symbolOf, extraBitsOf, extraValueOf, split, validConfig}
+use Rattle.packing.specs.Hybrid.{topBit, split, validConfig}
 use Rattle.packing.specs.declared.Split.{Split}
-use Rattle.packing.proofs.Hybrid.{Valid, valid, symbol-fits, top-from, top-most, symbol-past, extra-bits-past, extra-value-past, symbol-small, extra-bits-small, extra-value-small}
+use Rattle.packing.proofs.Hybrid.{valid, symbol-fits, top-from, top-most, symbol-past, extra-bits-past, extra-value-past, symbol-small, extra-bits-small, extra-value-small}
 
 pub record Past (s m l v n : ℕ) : Type 0 where
   pub from : s ≤ n

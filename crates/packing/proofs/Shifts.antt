@@ -1,6 +1,6 @@
 -- A one shifted up by less than the width.
 use Prim.Native.Nat.{ℕ, _*_, _%_, _^_, _<_}
-use mathlib.Core.Path.{_≡_, _∙_}
+use mathlib.Core.Path.{_≡_}
 use native.Mathlib.Nat.{mod-eq-of-lt, one-mul}
 use lib.Pow.{pow-lt}
 

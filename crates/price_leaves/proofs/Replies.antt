@@ -1,24 +1,17 @@
 -- Which reply a price call owes.
 use Prim.Native.Nat.{ℕ, _+_, _*_, _<_, _≤_}
-use mathlib.Core.Path.{_≡_, refl, sym, ap, _∙_, subst}
-use mathlib.Core.Bool.{Bool, true, false, _&&_, _||_}
+use mathlib.Core.Path.{_≡_, refl}
+use mathlib.Core.Bool.{Bool, true, false, _&&_, and-false}
 use native.Mathlib.Omega.{arith}
-use lib.Dec.{leb, ltb, eqb}
+use lib.Dec.{leb, ltb}
 use lib.Ieee.{Float}
-use lib.ListN.{length, getD}
-use borrow.Author.Tests.{eq-eqb, ne-eqb, le-leb, lt-leb, lt-ltb, le-ltb}
+use lib.ListN.{getD}
+use borrow.Author.Tests.{le-leb, lt-leb, lt-ltb, le-ltb}
 use Rattle.prices.specs.Book.{Book, at, clusterValid, clusterSymbol, clusterPrice, price}
-use Rattle.prices.specs.Checks.{symbolPrice, sameBits, check1, check2}
-use Rattle.prices.proofs.Each.{both}
-use Rattle.price_leaves.specs.Leaf.{clusterPasses, entriesPass, inDomain, lengthsPass, entryReply, tokenReply, pairReply, pick, pickPair}
-use Rattle.price_leaves.specs.declared.Price.{Price}
+use Rattle.prices.specs.Checks.{symbolPrice, sameBits, check1, check2, firstTwo}
+use Rattle.price_leaves.specs.Leaf.{clusterPasses, entriesPass, inDomain, entryReply, tokenReply, pairReply, pick}
 use Rattle.price_leaves.specs.declared.Price.the-variants.{Bits, Refused}
-use Rattle.price_leaves.specs.declared.PricePair.{PricePair}
 use Rattle.price_leaves.specs.declared.PricePair.the-variants as Pair
-
-and-false : (b : Bool) → (b && false) ≡ false
-and-false true = refl
-and-false false = refl
 
 -- ---- the entries of one context
 
@@ -51,31 +44,17 @@ module _ (b : Book) (context v : ℕ) where
     unfolding entryReply entriesPass clusterPasses
     small h e = simp (lt-ltb cluster (b .clusters) hk, valid, symbol, lt-leb 256 v h, e)
 
--- ---- the lengths
-
-module _ (b : Book) where
-  pub amiss1 : check1 b ≡ false → false ≡ lengthsPass b
-  unfolding lengthsPass
-  amiss1 e = simp e
-
-  pub amiss2 : check2 b ≡ false → false ≡ lengthsPass b
-  unfolding lengthsPass
-  amiss2 e = simp (e, and-false)
-
-  pub ready-alone : check1 b ≡ true → length (b .configs) ≡ 3 * b .clusters → length (b .symbols) ≡ 128 * b .clusters → eqb (length (b .ready)) (256 * b .clusters) ≡ lengthsPass b
-  unfolding lengthsPass check2
-  ready-alone e p q = simp (e, eq-eqb _ _ p, eq-eqb _ _ q)
-
-  pub lengths : lengthsPass b ≡ true → (check1 b ≡ true) × (check2 b ≡ true)
-  unfolding lengthsPass
-  lengths e = both (check1 b) (check2 b) e
-
 -- ---- the domain
 
 module _ (b : Book) (context v : ℕ) where
-  pub no-lengths : lengthsPass b ≡ false → Refused 17 ≡ tokenReply b context v
-  unfolding tokenReply inDomain
-  no-lengths e = simp e
+  pub no-lengths : (firstTwo b 0 ≡ 0 → ⊥) → Refused 17 ≡ tokenReply b context v
+  unfolding tokenReply inDomain firstTwo
+  no-lengths ne = go (check1 b) (check2 b) refl refl
+    where
+      go : (c1 c2 : Bool) → check1 b ≡ c1 → check2 b ≡ c2 → Refused 17 ≡ pick (check1 b && check2 b && ltb context 14850 && leb v 131071 && entriesPass b context v) (Bits (price b context v)) (Refused 17)
+      go true true e d = absurd (ne (simp (e, d)))
+      go true false e d = simp (d, and-false)
+      go false c2 e d = simp e
 
   pub no-context : 14850 ≤ context → Refused 17 ≡ tokenReply b context v
   unfolding tokenReply inDomain
@@ -85,9 +64,9 @@ module _ (b : Book) (context v : ℕ) where
   unfolding tokenReply inDomain
   no-value h = simp (lt-leb v 131071 h, and-false)
 
-  pub entries : lengthsPass b ≡ true → context < 14850 → v ≤ 131071 → entryReply b context v ≡ tokenReply b context v
+  pub entries : check1 b ≡ true → check2 b ≡ true → context < 14850 → v ≤ 131071 → entryReply b context v ≡ tokenReply b context v
   unfolding tokenReply entryReply inDomain
-  entries e h k = simp (e, lt-ltb context 14850 h, le-leb v 131071 k)
+  entries e d h k = simp (e, d, lt-ltb context 14850 h, le-leb v 131071 k)
 
 -- ---- a pair
 

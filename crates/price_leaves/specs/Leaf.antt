@@ -22,12 +22,9 @@ clusterPasses b k v =
 unfoldable pub entriesPass : Book → ℕ → ℕ → Bool
 entriesPass b context v = clusterPasses b (getD (b .map) context 0) v
 
-unfoldable pub lengthsPass : Book → Bool
-lengthsPass b = check1 b && check2 b
-
 -- A price call's domain: checks 1 and 2, a context, a value of module 1, and the entries that it reads.
 unfoldable pub inDomain : Book → ℕ → ℕ → Bool
-inDomain b context v = lengthsPass b && ltb context 14850 && leb v 131071 && entriesPass b context v
+inDomain b context v = check1 b && check2 b && ltb context 14850 && leb v 131071 && entriesPass b context v
 
 abbrev pub pick : Bool → Price → Price → Price
 pick true a b = a

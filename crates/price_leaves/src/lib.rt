@@ -4,7 +4,7 @@ ghost use mathlib.Core.Bool.{true};
 ghost use Prim.Native.Nat.{_≤_, _<_, _+_};
 ghost use Rattle.prices.specs.Book.{bookOf};
 ghost use Rattle.prices.specs.Checks.{check1, check2};
-ghost use Rattle.price_leaves.specs.Leaf.{tokenReply, pairReply, entryReply, lengthsPass};
+ghost use Rattle.price_leaves.specs.Leaf.{tokenReply, pairReply, entryReply};
 
 pub enum Price {
     Bits(f32),
@@ -49,35 +49,12 @@ fn entry_price(
         if value >= 256 {
             return Price::Bits(price);
         }
-        if book_checks::differs(ready[256 * cluster + value as usize], price) != 0 {
+        if book_rows::differs(ready[256 * cluster + value as usize], price) != 0 {
             return Price::Refused(OUTSIDE);
         }
         return Price::Bits(price);
     }
     Price::Refused(OUTSIDE)
-}
-
-// Whether a book's lengths pass checks 1 and 2.
-fn lengths_pass(clusters: u32, map: &[u8], configs: &[u8], symbols: &[f32], ready: &[f32]) -> bool
-    ensures { λ r. ⌜ r ≡ lengthsPass (bookOf clusters (now (map .entry)) (now (configs .entry)) (now (symbols .entry)) (now (ready .entry))) ⌝ }
-{
-    if map.len() != 14850 {
-        return false;
-    }
-    if clusters == 0 {
-        return false;
-    }
-    if clusters > 256 {
-        return false;
-    }
-    let n = clusters as usize;
-    if configs.len() != 3 * n {
-        return false;
-    }
-    if symbols.len() != 128 * n {
-        return false;
-    }
-    ready.len() == 256 * n
 }
 
 // The price of a value in a context.
@@ -98,18 +75,18 @@ pub fn token_bits(
     if value > 131071 {
         return Price::Refused(OUTSIDE);
     }
-    if lengths_pass(clusters, map, configs, symbols, ready) {
-        return entry_price(
-            clusters,
-            map,
-            configs,
-            symbols,
-            ready,
-            context as usize,
-            value,
-        );
+    if book_checks::check_lengths(clusters, map, configs, symbols, ready) != 0 {
+        return Price::Refused(OUTSIDE);
     }
-    Price::Refused(OUTSIDE)
+    entry_price(
+        clusters,
+        map,
+        configs,
+        symbols,
+        ready,
+        context as usize,
+        value,
+    )
 }
 
 // The prices of a value in a context and the next one.

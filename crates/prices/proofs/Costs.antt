@@ -1,23 +1,22 @@
 -- A price from a book that passes checks 1 to 6 is a cost: +infinity exactly where its symbol's price is, else at most 1,041.
 use mathlib.Core.List.{List}
 use Prim.Native.Nat.{zero-le, ℕ, zero, suc, _+_, _-_, _*_, _^_, _<_, _≤_}
-use mathlib.Core.Path.{_≡_, refl, sym, ap, ap₂, _∙_, subst, subst⁻¹}
-use mathlib.Core.Bool.{Bool, true, false, not, cond, _&&_, _||_, false≢true}
+use mathlib.Core.Path.{_≡_, refl, sym, _∙_, subst, subst⁻¹}
+use mathlib.Core.Bool.{Bool, true, false, cond, _&&_, _||_, false≢true}
 use mathlib.Core.Logic.{_⊎_, inl, inr, ⊎-elim}
 use native.Mathlib.Omega.{arith}
-use native.Mathlib.Nat.{zero-mul, zero-add, sub-zero, le-trans, le-of-eq, mul-le-mul-right, mul-pos, zero-lt-suc}
-use lib.Dec.{T, leb, ltb, eqb, leb→le, ltb→lt, le→leb, lit<, lit≤}
-use lib.IntN.{ℤ, pos, negsuc}
+use native.Mathlib.Nat.{zero-mul, zero-add, sub-zero, le-trans, mul-le-mul-right, mul-pos, zero-lt-suc}
+use lib.Dec.{T, ltb, le→leb, lit<, lit≤}
+use lib.IntN.{ℤ, pos}
 use lib.ListN.{getD}
-use lib.Ieee.{Float, nan, inf, fin, add, sum, round, ofInt, le, lt, eq, fits, up, down, binary32}
-use lib.Ieee.Bits.{is-true}
-use lib.Ieee.Fits.{up-pos, down-pos}
+use lib.Ieee.{Float, nan, inf, fin, add, sum, round, ofInt, inFloat, le, lt, eq, up, down, binary32}
+use lib.Ieee.Fits.{up-pos}
 use lib.Ieee.Scale.{finite}
-use borrow.Author.Tests.{lt-ltb, le-ltb, ne-eqb, leb-true}
+use borrow.Author.Tests.{lt-ltb, le-ltb, ne-eqb}
 use Rattle.costs.specs.Cost.{cost, bounded, capped}
 use Rattle.costs.proofs.View.{Cost, at-inf, at-fin, view}
 use Rattle.costs.proofs.Order.{le→cross}
-use Rattle.costs.proofs.Sum.{round-cost, add-cost, inf-add, finite-terms}
+use Rattle.costs.proofs.Sum.{round-cost, inf-add}
 use Rattle.costs.proofs.Bound.{round-bounded, bounded-capped, capped-cost, add-capped, add-finite, bounded-finite}
 use Rattle.packing.proofs.Hybrid.{symbol-fits, extra-bits-few}
 use Rattle.prices.specs.Book.{Book, at, clusterValid, clusterSymbol, clusterExtra, clusterPrice, price}
@@ -118,6 +117,11 @@ module _ (n : ℕ) (few : n ≤ 17) where
       (subst⁻¹ (λ (y : Float). T (finite y)) (negative-zero-add (z .0) (ofInt binary32 (pos n)) (extra-cost n))
       (finite-sum (fin false 0 (z .0)) (zero-capped (z .0)) tt)))
       (of-symbol x h)
+
+-- a number of extra bits is a float
+pub extra-exact : (n : ℕ) → n ≤ 16 → T (inFloat binary32 (pos n))
+unfolding inFloat
+extra-exact n h = le→leb n (2 ^ 24) (omega arith)
 
 pub zero-extra : ofInt binary32 (pos 0) ≡ fin false 0 (pos 0)
 unfolding ofInt

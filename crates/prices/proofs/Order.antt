@@ -1,16 +1,11 @@
 -- Which check a book fails first.
-use Prim.Native.Nat.{ℕ, _*_, _≤_, _<_}
-use mathlib.Core.Path.{_≡_, refl, sym}
-use mathlib.Core.Bool.{Bool, true, false, cond, _&&_}
-use lib.Dec.{leb, eqb}
+use Prim.Native.Nat.{_*_, _≤_, _<_}
+use mathlib.Core.Path.{_≡_}
+use mathlib.Core.Bool.{true, false, and-false}
 use lib.ListN.{length}
 use borrow.Author.Tests.{eq-eqb, ne-eqb, le-leb, lt-leb}
 use Rattle.prices.specs.Book.{Book}
-use Rattle.prices.specs.Checks.{check1, check2, check3, check4, check5, firstFive, fillRefusal}
-
-and-false : (b : Bool) → (b && false) ≡ false
-and-false true = refl
-and-false false = refl
+use Rattle.prices.specs.Checks.{check1, check2, check3, check4, check5, firstTwo, firstFive, fillRefusal}
 
 module _ (b : Book) where
   pub passes1 : length (b .map) ≡ 14850 → 1 ≤ b .clusters → b .clusters ≤ 256 → check1 b ≡ true
@@ -45,26 +40,30 @@ module _ (b : Book) where
   unfolding check2
   fails2-ready p = simp (ne-eqb _ _ p, and-false)
 
-  pub first : check1 b ≡ false → 1 ≡ fillRefusal b
-  unfolding fillRefusal firstFive
+  pub first : check1 b ≡ false → 1 ≡ firstTwo b 0
+  unfolding firstTwo
   first p = simp p
 
-  pub second : check1 b ≡ true → check2 b ≡ false → 2 ≡ fillRefusal b
-  unfolding fillRefusal firstFive
+  pub second : check1 b ≡ true → check2 b ≡ false → 2 ≡ firstTwo b 0
+  unfolding firstTwo
   second p q = simp (p, q)
 
+  pub lengths-pass : check1 b ≡ true → check2 b ≡ true → 0 ≡ firstTwo b 0
+  unfolding firstTwo
+  lengths-pass p q = simp (p, q)
+
   pub third : check1 b ≡ true → check2 b ≡ true → check3 b ≡ false → 3 ≡ fillRefusal b
-  unfolding fillRefusal firstFive
+  unfolding fillRefusal firstFive firstTwo
   third p q r = simp (p, q, r)
 
   pub fourth : check1 b ≡ true → check2 b ≡ true → check3 b ≡ true → check4 b ≡ false → 4 ≡ fillRefusal b
-  unfolding fillRefusal firstFive
+  unfolding fillRefusal firstFive firstTwo
   fourth p q r s = simp (p, q, r, s)
 
   pub fifth : check1 b ≡ true → check2 b ≡ true → check3 b ≡ true → check4 b ≡ true → check5 b ≡ false → 5 ≡ fillRefusal b
-  unfolding fillRefusal firstFive
+  unfolding fillRefusal firstFive firstTwo
   fifth p q r s t = simp (p, q, r, s, t)
 
   pub none : check1 b ≡ true → check2 b ≡ true → check3 b ≡ true → check4 b ≡ true → check5 b ≡ true → 0 ≡ fillRefusal b
-  unfolding fillRefusal firstFive
+  unfolding fillRefusal firstFive firstTwo
   none p q r s t = simp (p, q, r, s, t)

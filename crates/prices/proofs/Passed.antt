@@ -1,6 +1,6 @@
 -- What a book that passes checks 1 to 6 has, entry by entry.
-use Prim.Native.Nat.{ℕ, zero, suc, _+_, _*_, _<_, _≤_}
-use mathlib.Core.Path.{_≡_, refl, sym, ap, _∙_, subst, subst⁻¹}
+use Prim.Native.Nat.{ℕ, suc, _+_, _*_, _<_, _≤_}
+use mathlib.Core.Path.{_≡_, refl, sym, ap, _∙_}
 use mathlib.Core.Bool.{Bool, true, false, cond, _&&_}
 use mathlib.Core.List.{List}
 use native.Mathlib.Omega.{arith}
@@ -9,10 +9,10 @@ use lib.ListN.{length, getD}
 use lib.Ieee.{Float, fits, binary32, toBits, ofBits}
 use lib.Ieee.Bits.{ofBits-toBits}
 use lib.Ieee.Fits.{add-fits}
-use borrow.Author.Tests.{eqb-true, eqb-false, eq-eqb, leb-true, le-leb, ltb-true, lt-ltb}
+use borrow.Author.Tests.{eqb-true, eqb-false, leb-true, ltb-true}
 use Rattle.prices.specs.Book.{Book, at, clusterValid, clusterPrice, price}
-use Rattle.prices.specs.Checks.{each, symbolPrice, sameBits, check1, check2, check3, check4, check5, check6, mapBelow, allPriced, rowKept, firstFive, fillRefusal, bookRefusal}
-use Rattle.prices.proofs.Each.{both, both-of, each-below, each-all}
+use Rattle.prices.specs.Checks.{symbolPrice, sameBits, check1, check2, check3, check4, check5, check6, mapBelow, allPriced, rowKept, firstTwo, firstFive, fillRefusal, bookRefusal}
+use Rattle.prices.proofs.Each.{both, each-below}
 
 -- checks 1 to 5
 pub record Sound (b : Book) : Type 0 where
@@ -52,7 +52,7 @@ through true x n e = (refl, e)
 through false x n e = absurd (omega arith)
 
 pub sound : (b : Book) → fillRefusal b ≡ 0 → Sound b
-unfolding fillRefusal firstFive check3 mapBelow check4 check5 allPriced
+unfolding fillRefusal firstFive firstTwo check3 mapBelow check4 check5 allPriced
 sound b e =
     let t1 = through (check1 b) _ 0 e in
     let t2 = through (check2 b) _ 1 (t1 .1) in
@@ -75,6 +75,26 @@ sound b e =
       valid = each-below (clusterValid (b .configs)) (b .clusters) (t4 .0);
       priced = λ i h. each-below (λ j. symbolPrice (at (b .symbols) j)) (length (b .symbols)) (t5 .0) i (omega (arith, p2 .1));
     }
+
+-- Checks 1 and 2 alone.
+pub two : (b : Book) → firstTwo b 0 ≡ 0 → (check1 b ≡ true) × (check2 b ≡ true)
+unfolding firstTwo
+two b e =
+    let t1 = through (check1 b) _ 0 e in
+    let t2 = through (check2 b) 0 1 (t1 .1) in
+    (t1 .0, t2 .0)
+
+pub two-first : (b : Book) → (firstTwo b 0 ≡ 0 → ⊥) → firstTwo b 0 ≡ fillRefusal b
+unfolding fillRefusal firstFive firstTwo
+two-first b = go (check1 b) (check2 b)
+  where
+    later : ℕ
+    later = cond (check3 b) (cond (check4 b) (cond (check5 b) 0 5) 4) 3
+
+    go : (c1 c2 : Bool) → (_≡_ {A = ℕ} (cond c1 (cond c2 0 2) 1) 0 → ⊥) → _≡_ {A = ℕ} (cond c1 (cond c2 0 2) 1) (cond c1 (cond c2 later 2) 1)
+    go true true ne = absurd (ne refl)
+    go true false ne = refl
+    go false c2 ne = refl
 
 -- Checks 1 to 6 are checks 1 to 5 and then the sixth.
 chain : (c1 c2 c3 c4 c5 : Bool) → ℕ → ℕ
@@ -99,11 +119,11 @@ chain-first true false c3 c4 c5 n ne = refl
 chain-first false c2 c3 c4 c5 n ne = refl
 
 pub five-later : (b : Book) (n : ℕ) → fillRefusal b ≡ 0 → firstFive b n ≡ n
-unfolding fillRefusal firstFive chain
+unfolding fillRefusal firstFive firstTwo chain
 five-later b n e = chain-later (check1 b) (check2 b) (check3 b) (check4 b) (check5 b) n e
 
 pub five-first : (b : Book) (n : ℕ) → (fillRefusal b ≡ 0 → ⊥) → firstFive b n ≡ fillRefusal b
-unfolding fillRefusal firstFive chain
+unfolding fillRefusal firstFive firstTwo chain
 five-first b n ne = chain-first (check1 b) (check2 b) (check3 b) (check4 b) (check5 b) n ne
 
 pub six : (b : Book) → fillRefusal b ≡ 0 → bookRefusal b ≡ cond (check6 b) 0 6

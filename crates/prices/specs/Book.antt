@@ -22,7 +22,7 @@ bookOf n map configs symbols ready = record { clusters = n; map = map; configs =
 abbrev pub at : List Float → ℕ → Float
 at xs i = getD xs i nan
 
--- The configuration (s, m, l) of cluster k, its symbol for value v, and that symbol's extra bits.
+-- Cluster k's configuration (s, m, l) is its three bytes. Whether it is valid, its symbol for value v, and how many extra bits go with that:
 unfoldable pub clusterValid : List ℕ → ℕ → Bool
 clusterValid configs k = validConfig (getD configs (3 * k) 0) (getD configs (3 * k + 1) 0) (getD configs (3 * k + 2) 0)
 

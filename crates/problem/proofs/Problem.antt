@@ -20,8 +20,9 @@ use Rattle.least_cost.specs.Position.{nz}
 use Rattle.least_cost.specs.Choice.{remaining, inBand}
 use Rattle.least_cost.specs.Search.{countOf}
 use Rattle.least_cost.proofs.Trial.{nz-le}
+use Rattle.least_cost.proofs.Best.{AllPriced}
 use Rattle.least_cost.proofs.Counts.{Between}
-use Rattle.least_cost.proofs.Range.{choice-reach, choice-near}
+use Rattle.least_cost.proofs.Range.{Reach, choice-reach, choice-near}
 use Rattle.least_cost.proofs.Whole.{Banded, Sound}
 use Rattle.least_cost.proofs.Infinite.{Room, OneCapped, AllCapped, none-capped, more-capped, capped-priced, Capped}
 use Rattle.prices.specs.Book.{Book}
@@ -62,6 +63,11 @@ zero-capped = tt
 
 grown : (m n : ℕ) (x : Float) → m ≤ n → T (capped binary32 m 194 x) → T (capped binary32 n 194 x)
 grown m n x h = capped-more binary32 m 194 n 194 x (mul-le-mul-right (2 ^ 194) h)
+
+-- what a state within reach counts fits behind its position
+pub reach-fits : (v : Window) (b : Block) → covered b + v .length ≤ 64 * covered b → (i n r : ℕ) → i + n ≡ v .length → Reach (pastWindow v b) n r → r + (covered b + i) ≤ 64 * covered b
+unfolding pastLength
+reach-fits v b fits i n r e R = omega (arith, R .most, past-most v b)
 
 module _ (book : Book) (ok : bookRefusal book ≡ 0) (v : Window) (b : Block) (P : Passed v b) where
   -- ---- the tail
@@ -106,10 +112,14 @@ module _ (book : Book) (ok : bookRefusal book ≡ 0) (v : Window) (b : Block) (P
     unfolding positionAt
     one-capped i h = record { prices = λ r p c few m a. local-capped book ok v b P i h c (candidates-level book ok v b P i h c m) r p }
 
-    all-capped : (n i : ℕ) → i + n ≤ v .length → AllCapped 194 (pastLength v b) (tailOf v book b) (positionsFrom w v book b i n)
+    -- the last n positions, from i on
+    pub all-capped : (n i : ℕ) → i + n ≤ v .length → AllCapped 194 (pastLength v b) (tailOf v book b) (positionsFrom w v book b i n)
     unfolding positionsFrom tailOf
     all-capped zero i h = none-capped (λ p few. tail-capped p)
     all-capped (suc n) i h = more-capped (one-capped i (omega arith)) (all-capped n (suc i) (omega arith))
+
+    pub all-priced : (n i : ℕ) → i + n ≤ v .length → AllPriced (tailOf v book b) (positionsFrom w v book b i n)
+    all-priced n i h = capped-priced (all-capped n i h)
 
     positions-capped : AllCapped 194 (pastLength v b) (tailOf v book b) (positionsFrom w v book b 0 (v .length))
     positions-capped = all-capped (v .length) 0 (omega arith)

@@ -5,3 +5,5 @@ pub mod Noting
 pub mod Tying
 pub mod Choosing
 pub mod Rows
+pub mod Recursion
+pub mod Table

@@ -81,7 +81,7 @@ elsewhere-more v w =
     }
 
 -- ---- where nothing finite follows, nothing is finite
-dead-least : (g : ℤ → Float) (qs : List ℤ) → ((q : ℤ) → Mem q qs → T (cost (g q))) → least (with g (inf false)) (inf false) qs ≡ inf false
+pub dead-least : (g : ℤ → Float) (qs : List ℤ) → ((q : ℤ) → Mem q qs → T (cost (g q))) → least (with g (inf false)) (inf false) qs ≡ inf false
 unfolding least lt
 dead-least g [] G = refl
 dead-least g (q ∷ qs) G =

@@ -1,3 +1,4 @@
 pub mod Locals
 pub mod Chosen
 pub mod Row
+pub mod Table

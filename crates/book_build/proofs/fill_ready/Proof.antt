@@ -1,9 +1,9 @@
 -- `book_build::fill_ready` meets its contract. Assumes nothing.
-use mathlib.Core.Path.{_≡_, sym, _∙_}
-use Rattle.prices.proofs.Passed.{sound}
-use Rattle.book_checks.proofs.Steps.{sound-row}
-use Rattle.book_build.proofs.Filled.{refused, accepted}
+use mathlib.Core.Path.{sym, _∙_}
 use borrow.Author.Needs.{needs}
+use Rattle.prices.proofs.Passed.{sound}
+use Rattle.book_rows.proofs.Steps.{sound-row}
+use Rattle.book_build.proofs.Filled.{refused, accepted}
 use Rattle.book_build.proofs.fill_ready.Statement.{statement}
 use Rattle.book_build.proofs.fill_ready.Tie as tie
 

@@ -1,7 +1,7 @@
 -- `book_build::prefix_symbol_bits` meets its contract. Assumes nothing.
-use mathlib.Core.Path.{_≡_, sym, _∙_}
-use Rattle.book_build.proofs.Prefixed.{none, many, depths-amiss, singles-amiss, symbols-amiss, built, left-alone, written}
+use mathlib.Core.Path.{sym, _∙_}
 use borrow.Author.Needs.{needs}
+use Rattle.book_build.proofs.Prefixed.{none, many, depths-amiss, singles-amiss, symbols-amiss, built, left-alone, written}
 use Rattle.book_build.proofs.prefix_symbol_bits.Statement.{statement}
 use Rattle.book_build.proofs.prefix_symbol_bits.Tie as tie
 

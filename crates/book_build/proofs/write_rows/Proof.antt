@@ -1,17 +1,13 @@
-use Rattle.book_build.proofs.Prefixed.{row-after}
 -- `book_build::write_rows` meets its contract: the rows of one cluster after another. Assumes nothing.
-use Prim.Native.Nat.{ℕ, zero, suc, _+_, _-_, _*_, _/_, _<_, _≤_}
-use mathlib.Core.Path.{_≡_, refl, sym, ap, ap₂, _∙_, subst}
-use mathlib.Core.Bool.{Bool, not}
-use mathlib.Core.List.{List}
+use Prim.Native.Nat.{ℕ, _-_, _*_, _≤_}
+use mathlib.Core.Path.{_≡_, refl, ap, _∙_}
 use native.Mathlib.Omega.{arith}
-use native.Mathlib.Nat.{mul-zero}
-use lib.ListN.{length, getD}
-use lib.Ieee.{Float}
-use Rattle.book_build.specs.Paint.{paint}
-use Rattle.book_build.specs.Prefix.{Prefix, prefixOf, prefixEntry, rowEntry, singleOf, unseenPrice}
-use Rattle.book_build.proofs.Painted.{paint-length, paint-run, paint-same}
+use lib.ListN.{length}
 use borrow.Author.Needs.{needs}
+use Rattle.book_build.proofs.Prefixed.{row-after}
+use Rattle.book_build.specs.Paint.{paint}
+use Rattle.book_build.specs.Prefix.{prefixOf, prefixEntry, singleOf}
+use Rattle.book_build.proofs.Painted.{paint-length}
 use Rattle.book_build.proofs.write_rows.Statement.{statement}
 use Rattle.book_build.proofs.write_rows.Tie as tie
 

@@ -1,11 +1,11 @@
 -- `book_checks::check_book` meets its contract: checks 1 to 5, and then the sixth. Assumes nothing.
-use mathlib.Core.Path.{_≡_, sym, _∙_, ap}
+use mathlib.Core.Path.{sym, _∙_, ap}
 use mathlib.Core.Bool.{Bool, cond}
 use Prim.Native.Nat.{ℕ}
-use Rattle.prices.specs.Checks.{check6, fillRefusal}
-use Rattle.prices.proofs.Passed.{sound, six, first-five}
-use Rattle.book_checks.proofs.Steps.{sound-row}
 use borrow.Author.Needs.{needs}
+use Rattle.prices.specs.Checks.{check6}
+use Rattle.prices.proofs.Passed.{sound, six, first-five}
+use Rattle.book_rows.proofs.Steps.{sound-row}
 use Rattle.book_checks.proofs.check_book.Statement.{statement}
 use Rattle.book_checks.proofs.check_book.Tie as tie
 

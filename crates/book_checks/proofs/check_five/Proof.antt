@@ -1,114 +1,89 @@
 -- `book_checks::check_five` meets its contract: each return is the first check that fails. Assumes nothing.
-use Prim.Native.Nat.{ℕ, _*_, _≤_, _<_}
-use mathlib.Core.Path.{_≡_, refl, sym, _∙_}
-use mathlib.Core.Bool.{true, false}
+use mathlib.Core.Path.{_≡_, sym, _∙_}
+use mathlib.Core.Bool.{true}
 use native.Mathlib.Omega.{arith}
+use borrow.Author.Needs.{needs}
 use Rattle.prices.specs.Book.{Book, bookOf}
 use Rattle.prices.specs.Checks.{check1, check2, check3, check4, check5}
-use Rattle.prices.proofs.Order.{passes1, fails1-map, fails1-none, fails1-many, passes2, fails2-configs, fails2-symbols, fails2-ready, first, second, third, fourth, fifth, none}
-use borrow.Author.Needs.{needs}
+use Rattle.prices.proofs.Passed.{parts1, parts2, two, two-first}
+use Rattle.prices.proofs.Order.{third, fourth, fifth, none}
 use Rattle.book_checks.proofs.check_five.Statement.{statement}
 use Rattle.book_checks.proofs.check_five.Tie as tie
 
 abbrev lent : tie.Start → Book
-lent c = let a = c .args in bookOf (a .clusters) (a .map .now) (a .configs .now) (a .symbols .now) (a .ready .now)
+lent c = bookOf (c .args .clusters) (c .args .map .now) (c .args .configs .now) (c .args .symbols .now) (c .args .ready .now)
 
-known1 : (c : tie.Else3) → check1 (lent (c .before .before .before .before .before .before .before)) ≡ true
-known1 c = passes1 _ (c .before .before .if1 .left) (omega arith) (c .if3 .left)
+abbrev start : tie.Else1 → tie.Start
+start c = c .before .before .before .before .before .before
 
-known2 : (c : tie.Else6) → check2 (lent (c .before .before .before .before .before .before .before .before .before .before)) ≡ true
-known2 c = passes2 _ (c .before .before .if4 .left) (c .before .if5 .left) (c .if6 .left)
+-- what each check that passed tells
+lengths : (c : tie.Else1) → (check1 (lent (start c)) ≡ true) × (check2 (lent (start c)) ≡ true)
+lengths c = two _ (sym (c .before .check-lengths .ensures) ∙ c .if1 .left)
 
-known3 : (c : tie.Then7) → check3 (lent (c .before .before .before .before .before .before .before .before .before .before .before .before)) ≡ true
+known3 : (c : tie.Then2) → check3 (lent (start (c .before .before))) ≡ true
 unfolding check3
-known3 c = sym (c .before .map-below .ensures) ∙ c .if7 .taken
+known3 c = sym (c .before .map-below .ensures) ∙ c .if2 .taken
 
-known4 : (c : tie.Then8) → check4 (lent (c .before .before .before .before .before .before .before .before .before .before .before .before .before .before)) ≡ true
+known4 : (c : tie.Then3) → check4 (lent (start (c .before .before .before .before))) ≡ true
 unfolding check4
-known4 c = sym (c .before .configs-valid .ensures) ∙ c .if8 .taken
+known4 c = sym (c .before .configs-valid .ensures) ∙ c .if3 .taken
+
+check-lengths-requires : tie.Need-check-lengths-requires
+check-lengths-requires c κs = search needs
 
 returns : tie.Need-returns
-returns c = first _ (fails1-map _ (c .if1 .taken))
-
-returns-2 : tie.Need-returns-2
-returns-2 c = first _ (fails1-none _ (omega arith))
-
-returns-3 : tie.Need-returns-3
-returns-3 c = first _ (fails1-many _ (c .if3 .taken))
-
-mul-if4 : tie.Need-mul-if4
-mul-if4 c = search needs
-
-returns-4 : tie.Need-returns-4
-returns-4 c = second _ (known1 (c .before)) (fails2-configs _ (c .if4 .taken))
-
-mul-if5 : tie.Need-mul-if5
-mul-if5 c = search needs
-
-returns-5 : tie.Need-returns-5
-returns-5 c = second _ (known1 (c .before .before)) (fails2-symbols _ (c .if5 .taken))
-
-mul-if6 : tie.Need-mul-if6
-mul-if6 c = search needs
-
-returns-6 : tie.Need-returns-6
-returns-6 c = second _ (known1 (c .before .before .before)) (fails2-ready _ (c .if6 .taken))
+returns c = c .before .check-lengths .ensures ∙ two-first _ (λ e. c .if1 .taken (c .before .check-lengths .ensures ∙ e))
 
 map-below-requires : tie.Need-map-below-requires
-map-below-requires c κs = search needs
+map-below-requires c κs = parts1 _ (lengths c .0) .1
 
 configs-valid-requires : tie.Need-configs-valid-requires
-configs-valid-requires c κs = search needs
+configs-valid-requires c κs = parts2 _ (lengths (c .before .before) .1) .0
 
 symbols-priced-requires : tie.Need-symbols-priced-requires
-symbols-priced-requires c κs = search needs
+symbols-priced-requires c κs =
+    let e1 = c .before .before .before .before in
+    omega (arith, parts1 _ (lengths e1 .0), parts2 _ (lengths e1 .1))
 
-returns-7 : tie.Need-returns-7
+returns-2 : tie.Need-returns-2
 unfolding check5
-returns-7 c =
-    let t8 = c .before .before in
-    let t7 = t8 .before .before in
-    let e6 = t7 .before .before in
-    none _ (known1 (e6 .before .before .before)) (known2 e6) (known3 t7) (known4 t8) (sym (c .before .symbols-priced .ensures) ∙ c .if9 .taken)
+returns-2 c =
+    let t3 = c .before .before in
+    let t2 = t3 .before .before in
+    let p = lengths (t2 .before .before) in
+    none _ (p .0) (p .1) (known3 t2) (known4 t3) (sym (c .before .symbols-priced .ensures) ∙ c .if4 .taken)
 
-returns-8 : tie.Need-returns-8
+returns-3 : tie.Need-returns-3
 unfolding check5
-returns-8 c =
-    let t8 = c .before .before in
-    let t7 = t8 .before .before in
-    let e6 = t7 .before .before in
-    fifth _ (known1 (e6 .before .before .before)) (known2 e6) (known3 t7) (known4 t8) (sym (c .before .symbols-priced .ensures) ∙ c .if9 .left)
+returns-3 c =
+    let t3 = c .before .before in
+    let t2 = t3 .before .before in
+    let p = lengths (t2 .before .before) in
+    fifth _ (p .0) (p .1) (known3 t2) (known4 t3) (sym (c .before .symbols-priced .ensures) ∙ c .if4 .left)
 
-returns-9 : tie.Need-returns-9
+returns-4 : tie.Need-returns-4
 unfolding check4
-returns-9 c =
-    let t7 = c .before .before in
-    let e6 = t7 .before .before in
-    fourth _ (known1 (e6 .before .before .before)) (known2 e6) (known3 t7) (sym (c .before .configs-valid .ensures) ∙ c .if8 .left)
+returns-4 c =
+    let t2 = c .before .before in
+    let p = lengths (t2 .before .before) in
+    fourth _ (p .0) (p .1) (known3 t2) (sym (c .before .configs-valid .ensures) ∙ c .if3 .left)
 
-returns-10 : tie.Need-returns-10
+returns-5 : tie.Need-returns-5
 unfolding check3
-returns-10 c =
-    let e6 = c .before .before in
-    third _ (known1 (e6 .before .before .before)) (known2 e6) (sym (c .before .map-below .ensures) ∙ c .if7 .left)
+returns-5 c =
+    let p = lengths (c .before .before) in
+    third _ (p .0) (p .1) (sym (c .before .map-below .ensures) ∙ c .if2 .left)
 
 pub check-five-spec : {M : Type 1} → statement M
 check-five-spec =
     tie.close
     (tie.spec
+    check-lengths-requires
     returns
-    returns-2
-    returns-3
-    mul-if4
-    returns-4
-    mul-if5
-    returns-5
-    mul-if6
-    returns-6
     map-below-requires
     configs-valid-requires
     symbols-priced-requires
-    returns-7
-    returns-8
-    returns-9
-    returns-10)
+    returns-2
+    returns-3
+    returns-4
+    returns-5)

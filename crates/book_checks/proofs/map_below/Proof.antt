@@ -1,15 +1,13 @@
-use Rattle.book_checks.proofs.Steps.{each-max}
-use Prim.Native.Nat.{ℕ, suc, _+_, _-_, _*_, _<_, _≤_, max}
-use mathlib.Core.Path.{_≡_, refl, sym, ap, _∙_, subst}
-use mathlib.Core.Bool.{Bool, true, false}
+-- `book_checks::map_below` meets its contract. Assumes nothing.
+use Prim.Native.Nat.{ℕ, _-_, _<_, _≤_}
+use mathlib.Core.Path.{_≡_, refl, sym, subst}
 use native.Mathlib.Omega.{arith}
-use lib.Dec.{T, leb, ltb, eqb}
+use lib.Dec.{ltb}
 use lib.ListN.{length, getD}
-use borrow.Author.Tests.{lt-ltb, le-ltb, eq-eqb, ne-eqb}
-use Rattle.prices.specs.Book.{at, clusterValid}
-use Rattle.prices.specs.Checks.{each, symbolPrice, mapBelow, allPriced, sameBits}
-use Rattle.prices.proofs.Each.{each-below, each-all, each-more, each-fails, each-count}
+use borrow.Author.Tests.{lt-ltb}
 use borrow.Author.Needs.{needs}
+use Rattle.book_checks.proofs.Steps.{each-max}
+use Rattle.prices.specs.Checks.{each, mapBelow}
 use Rattle.book_checks.proofs.map_below.Statement.{statement}
 use Rattle.book_checks.proofs.map_below.Tie as tie
 

@@ -1,7 +1,8 @@
+-- `book_checks::unpriced` meets its contract. Assumes nothing.
 use native.Mathlib.Omega.{arith}
 use lib.Ieee.{ofBits}
-use Rattle.prices.specs.Checks.{symbolPrice}
 use borrow.Author.Needs.{needs}
+use Rattle.prices.specs.Checks.{symbolPrice}
 use Rattle.book_checks.proofs.unpriced.Statement.{statement}
 use Rattle.book_checks.proofs.unpriced.Tie as tie
 

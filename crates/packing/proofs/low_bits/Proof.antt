@@ -1,7 +1,6 @@
 -- `packing::low_bits` meets its contract. Assumes nothing.
-use Prim.Native.Nat.{ℕ, _%_, _^_, _<_}
+use Prim.Native.Nat.{ℕ, _%_}
 use mathlib.Core.Path.{ap}
-use native.Mathlib.Omega.{arith}
 use lib.Pow.{pow-pos}
 use Rattle.packing.proofs.low_bits.Statement.{statement}
 use Rattle.packing.proofs.low_bits.Tie as tie

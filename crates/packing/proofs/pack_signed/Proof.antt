@@ -1,5 +1,5 @@
 -- `packing::pack_signed` meets its contract: a negative level -(n + 1) is mirrored to n, with no overflow. Assumes nothing.
-use Prim.Native.Nat.{ℕ, suc, _+_, _-_, _*_, _^_, _≤_, _<_}
+use Prim.Native.Nat.{suc, _+_, _-_, _*_, _≤_}
 use mathlib.Core.Path.{_≡_, ap, _∙_, subst}
 use mathlib.Core.Bool.{true, false, true≢false}
 use native.Mathlib.Omega.{arith}
@@ -7,9 +7,9 @@ use native.Mathlib.Nat.{not-suc-le-zero}
 use borrow.Author.Tests.{ltb-true, le-ltb}
 use lib.Dec.{T}
 use lib.IntN.{ℤ, pos, negsuc, natAbs, _-ℤ_}
-use lib.Signed.{mag, ltZ, nonNeg}
+use lib.Signed.{ltZ, nonNeg}
 use mir.Syntax.{w32}
-use mir.Val.{SFits, Fits, toZ, ofZ}
+use mir.Val.{SFits, toZ, ofZ}
 use mir.ValLaws.{toZ-ofZ}
 use Rattle.packing.specs.Signed.{packSigned}
 use Rattle.packing.proofs.pack_signed.Statement.{statement}

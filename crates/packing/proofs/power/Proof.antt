@@ -1,3 +1,4 @@
+-- `packing::power` meets its contract. Assumes nothing.
 use borrow.Author.Needs.{needs}
 use Rattle.packing.proofs.Shifts.{one-up}
 use Rattle.packing.proofs.power.Statement.{statement}

@@ -1,6 +1,6 @@
 -- `packing::top_bit` meets its contract: the top one bit is the one that the leading zeros leave. Assumes nothing.
-use Prim.Native.Nat.{ℕ, _+_, _-_, _≤_, _<_, _^_}
-use mathlib.Core.Path.{_≡_, sym}
+use Prim.Native.Nat.{ℕ, _-_, _≤_, _<_, _^_}
+use mathlib.Core.Path.{_≡_}
 use native.Mathlib.Omega.{arith}
 use lib.Count.{leadingZeros, leading-top}
 use Rattle.packing.specs.Hybrid.{topBit}

@@ -1,7 +1,6 @@
 -- `packing::uint_encode_with_config` meets its contract. Assumes nothing.
 use Prim.Native.Nat.{ℕ, _-_, _*_, _/_, _%_, _^_}
 use native.Mathlib.Omega.{arith}
-use native.Mathlib.Nat.{lt-of-lt-of-le}
 use lib.Pow.{pow-pos}
 use mathlib.Core.Path.{_≡_, ap}
 use Rattle.packing.proofs.Hybrid.{valid}

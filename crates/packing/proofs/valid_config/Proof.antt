@@ -5,8 +5,8 @@ use borrow.Author.Tests.{le-leb, lt-leb}
 use lib.Dec.{leb}
 use lib.Pow.{pow-mono}
 use mathlib.Core.Path.{_≡_, ap₂}
-use Rattle.packing.specs.Hybrid.{validConfig}
 use native.Mathlib.Omega.{arith}
+use Rattle.packing.specs.Hybrid.{validConfig}
 use Rattle.packing.proofs.valid_config.Statement.{statement}
 use Rattle.packing.proofs.valid_config.Tie as tie
 

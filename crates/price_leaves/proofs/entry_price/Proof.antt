@@ -1,19 +1,19 @@
 -- `price_leaves::entry_price` meets its contract: each refusal names an entry that fails. Assumes nothing.
 use Prim.Native.Nat.{ℕ, _+_, _*_, _<_, _≤_}
-use mathlib.Core.Path.{_≡_, refl, sym, ap, _∙_, subst}
-use mathlib.Core.Bool.{true, false}
+use mathlib.Core.Path.{_≡_, sym, ap, _∙_, subst}
+use mathlib.Core.Bool.{true}
 use native.Mathlib.Omega.{arith}
 use lib.Dec.{eqb}
 use lib.ListN.{length, getD}
 use lib.Ieee.{Float}
 use borrow.Author.Tests.{eq-eqb, ne-eqb}
+use borrow.Author.Needs.{needs}
 use Rattle.prices.specs.Book.{Book, bookOf, at, clusterValid, clusterSymbol, clusterPrice, price}
 use Rattle.prices.specs.Checks.{symbolPrice, sameBits}
 use Rattle.prices.proofs.Passed.{parts1, parts2}
 use Rattle.prices.proofs.Costs.{symbol-within, cluster-cost}
 use Rattle.price_leaves.specs.declared.Price.the-variants.{Bits}
 use Rattle.price_leaves.proofs.Replies.{no-cluster, no-config, no-symbol, no-ready, large, small}
-use borrow.Author.Needs.{needs}
 use Rattle.price_leaves.proofs.entry_price.Statement.{statement}
 use Rattle.price_leaves.proofs.entry_price.Tie as tie
 

@@ -1,7 +1,7 @@
-use mathlib.Core.Path.{_≡_, sym, _∙_}
 -- `price_leaves::token_bits_pair` meets its contract. Assumes nothing.
-use Rattle.price_leaves.proofs.Replies.{no-second, first-refused, second-refused, both-priced}
+use mathlib.Core.Path.{sym, _∙_}
 use borrow.Author.Needs.{needs}
+use Rattle.price_leaves.proofs.Replies.{no-second, first-refused, second-refused, both-priced}
 use Rattle.price_leaves.proofs.token_bits_pair.Statement.{statement}
 use Rattle.price_leaves.proofs.token_bits_pair.Tie as tie
 

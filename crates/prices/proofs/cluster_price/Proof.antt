@@ -1,20 +1,15 @@
 -- `prices::cluster_price` meets its contract. Assumes nothing.
-use Prim.Native.Nat.{ℕ, _+_, _*_, _^_, _<_, _≤_}
-use mathlib.Core.Path.{_≡_, ap₂}
+use Prim.Native.Nat.{ℕ, _+_, _*_, _<_}
+use mathlib.Core.Path.{ap₂}
 use native.Mathlib.Omega.{arith}
-use lib.Dec.{T, le→leb}
 use lib.IntN.{pos}
 use lib.ListN.{getD}
-use lib.Ieee.{nan, add, ofInt, inFloat, binary32}
-use Rattle.prices.specs.Book.{clusterPrice}
-use Rattle.prices.proofs.Costs.{symbol-within, extra-few}
+use lib.Ieee.{nan, add, ofInt, binary32}
 use borrow.Author.Needs.{needs}
+use Rattle.prices.specs.Book.{clusterPrice}
+use Rattle.prices.proofs.Costs.{symbol-within, extra-few, extra-exact}
 use Rattle.prices.proofs.cluster_price.Statement.{statement}
 use Rattle.prices.proofs.cluster_price.Tie as tie
-
-exact : (n : ℕ) → n ≤ 16 → T (inFloat binary32 (pos n))
-unfolding inFloat
-exact n h = le→leb n (2 ^ 24) (omega arith)
 
 symbol-below : (c : tie.After-cluster-split) → c .cluster-split .result .symbol < 128
 symbol-below c =
@@ -43,7 +38,7 @@ int-to-float-result : tie.Need-int-to-float-result
 int-to-float-result c =
     let start = c .before .before .before .before .before .before in
     rw (c .before .before .before .cluster-split .ensures .1)
-    (exact _ (extra-few (start .args .configs .now) (start .args .cluster) (start .args .value) (start .pre .1 .1 .1)))
+    (extra-exact _ (extra-few (start .args .configs .now) (start .args .cluster) (start .args .value) (start .pre .1 .1 .1)))
 
 returns : tie.Need-returns
 unfolding clusterPrice

@@ -4,10 +4,10 @@ use mathlib.Core.Path.{_≡_}
 use mathlib.Core.Bool.{true}
 use mathlib.Core.List.{List}
 use lib.ListN.{getD}
+use borrow.Author.Needs.{needs}
 use Rattle.packing.specs.Hybrid.{validConfig, split}
 use Rattle.packing.specs.declared.Split.{Split}
 use Rattle.prices.specs.Book.{clusterValid, clusterSymbol, clusterExtra}
-use borrow.Author.Needs.{needs}
 use Rattle.prices.proofs.cluster_split.Statement.{statement}
 use Rattle.prices.proofs.cluster_split.Tie as tie
 

@@ -1,11 +1,9 @@
 -- `prices::token_bits` meets its contract: a ready price has the bits of the price, and so is the price. Assumes nothing.
-use Prim.Native.Nat.{ℕ, _+_, _*_, _<_, _≤_}
-use mathlib.Core.Path.{_≡_}
+use Prim.Native.Nat.{_+_, _*_, _<_}
 use native.Mathlib.Omega.{arith}
 use lib.ListN.{getD}
-use Rattle.prices.specs.Book.{Book, bookOf, price}
+use Rattle.prices.specs.Book.{bookOf, price}
 use Rattle.prices.proofs.Passed.{Passed, passed, same-float, cluster-price-fits}
-use borrow.Author.Needs.{needs}
 use Rattle.prices.proofs.token_bits.Statement.{statement}
 use Rattle.prices.proofs.token_bits.Tie as tie
 
