@@ -35,7 +35,7 @@ nz-two (pos zero) = inl refl
 nz-two (pos (suc n)) = inr refl
 nz-two (negsuc n) = inr refl
 
-rate-same : (b : Block) (log2 i : ℕ) (q : ℤ) → rateAt (placeOf b log2 i) q ≡ rate b i q
+pub rate-same : (b : Block) (log2 i : ℕ) (q : ℤ) → rateAt (placeOf b log2 i) q ≡ rate b i q
 unfolding rateAt placeOf nonzeroRate rate
 rate-same b log2 i q = ⊎-elim none some (nz-two q)
   where

@@ -1,0 +1,215 @@
+-- The pass over the whole window, and what the call answers. Assumes nothing.
+use mathlib.Core.Path.{_≡_, refl, ap, _∙_}
+use mathlib.Core.Bool.{Bool, true, false, cond, _&&_}
+use mathlib.Core.List.{List, []}
+use Prim.Native.Nat.{ℕ, suc, _+_, _-_, _*_, _≤_, _<_, min}
+use native.Mathlib.Omega.{arith}
+use native.Mathlib.Nat.{le-refl, le-trans, min-le-left, min-le-right}
+use lib.Dec.{lit≤}
+use lib.IntN.{ℤ}
+use lib.ListN.{length}
+use lib.Ieee.{Float}
+use borrow.Author.Tests.{eq-eqb, ne-eqb}
+use Rattle.bias.specs.declared.DequantBias.{DequantBias}
+use Rattle.block.specs.Block.{Block, blockOf, covered, contextOf, inputAt, inputRemaining, ideal, nonzerosAmong}
+use Rattle.ac_context.specs.Contexts.{isPowerBelow}
+use Rattle.block.specs.Checks.{check7, blockRefusal, searchRefusal}
+use Rattle.block.specs.declared.Answer.the-variants.{Count, Refused}
+use Rattle.block.specs.declared.Shape.{Shape}
+use Rattle.block_checks.specs.Passed.{Passed}
+use Rattle.block_checks.proofs.Laws.{refused-room}
+use Rattle.laws.proofs.Tests.{and-left, and-right}
+use Rattle.prices.specs.Book.{Book}
+use Rattle.prices.specs.Checks.{bookRefusal}
+use Rattle.steps.proofs.Counting.{among-most}
+use Rattle.steps.specs.Plan.{Planned, Lists, Whole}
+use Rattle.steps.specs.declared.reading.Plan.{Plan}
+use Rattle.weights.specs.Window.{windowOf, baseLen}
+use Rattle.weights.specs.declared.Settings.{Settings}
+use Rattle.weights.specs.declared.Window.{Window}
+use Rattle.greedy.specs.declared.pass.Counts.{Counts}
+use Rattle.greedy.specs.Greedy.{withLevels, settledAt, settledFrom, greedyLevels, greedyOutcome}
+use Rattle.greedy.specs.Reading.{Fitting, Ready, countFrom}
+use Rattle.greedy.proofs.Passing.{scan-long, within, among-split}
+
+-- ---- the counts at the window's end
+pub whole-later : {c from from' : ℕ} {scan : List ℕ} {levels : List ℤ} → Whole c from scan levels → from ≤ from' → Whole c from' scan levels
+whole-later w h = record { size = w .size; within = w .within; level = λ k l m. w .level k (le-trans h l) m }
+
+pub total-is : (scan : List ℕ) (levels : List ℤ) (c n : ℕ) {later window : ℕ} → c + n ≤ 64 * c → later ≡ countFrom scan levels c (c + n) → window ≡ nonzerosAmong scan levels c (c + n - c)
+    → later + window ≡ countFrom scan levels c c
+total-is scan levels c n {later} {window} h el ew =
+    let parts : 64 * c - c ≡ n + (64 * c - (c + n)) = omega arith in
+    let same : c + n - c ≡ n = omega arith in
+    let split = among-split scan levels c n (64 * c - (c + n)) in
+    let whole : countFrom scan levels c c ≡ nonzerosAmong scan levels c (n + (64 * c - (c + n))) = ap (nonzerosAmong scan levels c) parts in
+    let front : window ≡ nonzerosAmong scan levels c n = ew ∙ ap (nonzerosAmong scan levels c) same in
+    omega arith
+
+pub counted-few : (scan : List ℕ) (levels : List ℤ) (c : ℕ) {t : ℕ} → t ≡ countFrom scan levels c c → t ≤ 64 * c
+counted-few scan levels c e = omega (arith, among-most scan levels c (64 * c - c))
+
+module _ {p : Plan} {scan : List ℕ} {source inverse : List Float} {levels : List ℤ} where
+  pub whole-of : Fitting p → Ready p scan source inverse levels (64 * p .covered) → Whole (p .covered) (p .covered) scan levels
+  whole-of f r = record { size = scan-long f r; within = λ k h. within f r k (rw (scan-long f r) at h); level = λ k l h. r .current k l (rw (scan-long f r) at h) }
+
+  pub ready-less : {upto upto' : ℕ} → upto' ≤ upto → Ready p scan source inverse levels upto → Ready p scan source inverse levels upto'
+  ready-less h r =
+      record { scanned = r .scanned; sourced = r .sourced; inverted = r .inverted; levelled = r .levelled; current = λ k l m. r .current k l (le-trans m h); ideals = r .ideals }
+
+-- ---- the pass, down to window position i
+pub planned-with : {b : Block} {p : Plan} → Planned b p → (x : List ℤ) → Planned (withLevels b x) p
+unfolding covered contextOf
+planned-with w x =
+    record {
+      covered-is = w .covered-is;
+      covers = w .covers;
+      window-is = w .window-is;
+      base-is = w .base-is;
+      offset-is = w .offset-is;
+      count-is = w .count-is;
+      scale-is = w .scale-is;
+      distance-is = w .distance-is;
+      bias-is = w .bias-is;
+      lambda-is = w .lambda-is;
+      restore-is = w .restore-is;
+      source-is = w .source-is;
+    }
+
+pub record SoFar (p : Plan) (book : Book) (scan : List ℕ) (source inverse : List Float) (first levels : List ℤ) (counts : Counts) (i : ℕ) : Type 0 where
+  pub upto : i ≤ p .window .length
+  pub ready : Ready p scan source inverse levels (p .covered + i)
+  pub later : counts .later ≡ countFrom scan levels (p .covered) (p .covered + i)
+  pub total : counts .total ≡ countFrom scan levels (p .covered) (p .covered)
+  pub rest : (b : Block) → Lists b scan source inverse first → Planned b p → settledFrom (windowOf (covered b)) book i (withLevels b levels) ≡ settledFrom (windowOf (covered b)) book (p .window .length) b
+
+module _ {p : Plan} (book : Book) {scan : List ℕ} {source inverse : List Float} {first : List ℤ} where
+  pub so-far-none : {counts : Counts} → Fitting p → Ready p scan source inverse first (64 * p .covered) → counts .later ≡ countFrom scan first (p .covered) (p .covered + p .window .length)
+      → counts .total ≡ countFrom scan first (p .covered) (p .covered) → SoFar p book scan source inverse first first counts (p .window .length)
+  so-far-none f r el et =
+      record {
+        upto = le-refl _;
+        ready = ready-less (f .window) r;
+        later = el;
+        total = et;
+        rest = λ b l w. ap (λ (x : List ℤ). settledFrom (windowOf (covered b)) book (p .window .length) (withLevels b x)) (l .levels-is);
+      }
+
+  module _ {levels : List ℤ} {counts : Counts} {i : ℕ} (some : 0 < i) (s : SoFar p book scan source inverse first levels counts i) where
+    next : p .covered + (i - 1) + 1 ≡ p .covered + i
+    next = omega arith
+
+    pub next-ready : Ready p scan source inverse levels (p .covered + (i - 1) + 1)
+    next-ready = rw next (s .ready)
+
+    pub next-below : i - 1 < p .window .length
+    next-below = omega (arith, s .upto)
+
+    pub next-later : counts .later ≡ countFrom scan levels (p .covered) (p .covered + (i - 1) + 1)
+    next-later = rw next (s .later)
+
+    pub so-far-more : {levels' : List ℤ} {counts' : Counts}
+        → ((b : Block) → Lists b scan source inverse levels → Planned b p → levels' ≡ settledAt (windowOf (covered b)) book b (i - 1))
+        → Ready p scan source inverse levels' (p .covered + (i - 1)) → counts' .later ≡ countFrom scan levels' (p .covered) (p .covered + (i - 1)) → counts' .total ≡ countFrom scan levels' (p .covered) (p .covered)
+        → SoFar p book scan source inverse first levels' counts' (i - 1)
+    unfolding settledFrom covered
+    so-far-more {levels'} step r el et =
+        let before : i ≡ suc (i - 1) = omega arith in
+        record {
+          upto = omega (arith, s .upto);
+          ready = r;
+          later = el;
+          total = et;
+          rest = λ b l w.
+              let wrote = step (withLevels b levels) (record { scan-is = l .scan-is; source-is = l .source-is; inverse-is = l .inverse-is; levels-is = refl }) (planned-with w levels) in
+              let old = rw before at (s .rest b l w) in
+              ap (λ (x : List ℤ). settledFrom (windowOf (covered b)) book (i - 1) (withLevels b x)) wrote ∙ old;
+        }
+
+  pub so-far-all : {levels : List ℤ} {counts : Counts} {i : ℕ} → i ≤ 0 → SoFar p book scan source inverse first levels counts i
+      → (b : Block) → Lists b scan source inverse first → Planned b p → levels ≡ greedyLevels (windowOf (covered b)) book b
+  unfolding settledFrom greedyLevels
+  so-far-all {levels} {counts} {i} h s b l w =
+      let none : i ≡ 0 = omega arith in
+      rw none at (s .rest b l w) ∙ ap (λ (v : Window). settledFrom (windowOf (covered b)) book (v .length) b) (w .window-is)
+
+-- ---- the call
+module _ {shape : Shape} {settings : Settings} {bias : DequantBias} {scale : Float} {p : Plan} (w : Planned (blockOf shape settings bias scale [] [] [] []) p)
+    (scan : List ℕ) (source inverse : List Float) (levels : List ℤ) where
+  -- a plan goes by no list
+  pub planned-lists : Planned (blockOf shape settings bias scale scan source inverse levels) p
+  unfolding covered contextOf
+  planned-lists =
+      record {
+        covered-is = w .covered-is;
+        covers = w .covers;
+        window-is = w .window-is;
+        base-is = w .base-is;
+        offset-is = w .offset-is;
+        count-is = w .count-is;
+        scale-is = w .scale-is;
+        distance-is = w .distance-is;
+        bias-is = w .bias-is;
+        lambda-is = w .lambda-is;
+        restore-is = w .restore-is;
+        source-is = w .source-is;
+      }
+
+pub own-lists : (b : Block) → Lists b (b .scan) (b .source) (b .inverse) (b .levels)
+own-lists b = record { scan-is = refl; source-is = refl; inverse-is = refl; levels-is = refl }
+
+-- the sides of a block that passed
+pub sides : (b : Block) → blockRefusal (windowOf (covered b)) b 0 ≡ 0 → (isPowerBelow 6 (b .shape .cx) ≡ true) × (isPowerBelow 6 (b .shape .cy) ≡ true)
+unfolding blockRefusal check7
+sides b e = (and-left x y seven, and-right x y seven)
+  where
+    x : Bool
+    x = isPowerBelow 6 (b .shape .cx)
+
+    y : Bool
+    y = isPowerBelow 6 (b .shape .cy)
+
+    go : (t : Bool) (n : ℕ) → cond t n 7 ≡ 0 → t ≡ true
+    go true n h = refl
+    go false n h = absurd (omega arith)
+
+    seven : (x && y) ≡ true
+    seven = go (x && y) _ e
+
+small-base : (c : ℕ) → baseLen c ≤ 1024
+small-base c = le-trans (min-le-left (min (24 * c) 64) (63 * c)) (le-trans (min-le-right (24 * c) 64) (lit≤ tt))
+
+module _ {b : Block} {p : Plan} (a : Passed (windowOf (covered b)) b) (w : Planned b p) where
+  pub fitting-of : Fitting p
+  fitting-of =
+      record {
+        some = rw (w .covered-is) (a .some);
+        most = rw (w .covered-is) (a .most);
+        base = rw (w .base-is) (small-base (covered b));
+        window = rw (w .covered-is, w .window-is) (a .window .fits);
+      }
+
+  pub ready-of : Ready p (b .scan) (b .source) (b .inverse) (b .levels) (64 * p .covered)
+  unfolding inputAt ideal
+  ready-of =
+      record {
+        scanned = rw (w .covered-is) (a .scanned);
+        sourced = rw (w .covered-is) (a .source-long);
+        inverted = rw (w .covered-is) (a .inverse-long);
+        levelled = rw (w .covered-is) (a .levels-long);
+        current = λ k l m. a .current k (rw (w .covered-is) at l) (rw (w .covered-is) at m);
+        ideals = λ i h. rw (w .covered-is, w .source-is) (a .ideals i (rw (w .window-is) at h));
+      }
+
+module _ (book : Book) (b : Block) where
+  pub refused-outcome : {n : ℕ} → n ≡ searchRefusal book b true → (n ≡ 0 → ⊥) → (Refused n ≡ greedyOutcome book b .answer) × (b .levels ≡ greedyOutcome book b .levels)
+  unfolding greedyOutcome
+  refused-outcome e some = rw (ne-eqb (searchRefusal book b true) 0 (λ z. some (e ∙ z))) (ap Refused e, refl)
+
+  pub settled-outcome : {p : Plan} {levels : List ℤ} {count : ℕ} → bookRefusal book ≡ 0 → blockRefusal (windowOf (covered b)) b 0 ≡ 0 → Planned b p
+      → levels ≡ greedyLevels (windowOf (covered b)) book b → count ≡ countFrom (b .scan) levels (p .covered) (p .covered)
+      → (Count count ≡ greedyOutcome book b .answer) × (levels ≡ greedyOutcome book b .levels)
+  unfolding greedyOutcome inputRemaining covered
+  settled-outcome {p} {levels} {count} ok passes w el ec =
+      let none : searchRefusal book b true ≡ 0 = refused-room book b true ok passes in
+      rw (eq-eqb (searchRefusal book b true) 0 none, ← el) (ap Count (ec ∙ rw (w .covered-is)), refl)

@@ -1,0 +1,113 @@
+-- The greedy search: one pass over the window, from the last position to the first. Each position takes its cheapest candidate, given the levels chosen behind it;
+-- in front of it stand the input's. So each step is told of the block as it stands: its levels are the chosen ones behind the position and the input's elsewhere.
+use Prim.Native.Nat.{ℕ, zero, suc, _+_, _-_}
+use mathlib.Core.Bool.{Bool, true, false, cond, _&&_, _||_}
+use mathlib.Core.List.{List}
+use lib.Dec.{eqb}
+use lib.IntN.{ℤ, pos}
+use lib.ListN.{getD, length, set}
+use lib.Ieee.{Float, fin, inf, add, mul, binary32}
+use Rattle.block.specs.Band.{inputAfter}
+use Rattle.block.specs.Block.{Block, blockOf, covered, inputAt, inputRemaining, nonzerosAmong, candidatesAt}
+use Rattle.block.specs.Checks.{searchRefusal}
+use Rattle.block.specs.Cost.{distortion, rate, tokenPrice, firstPrev, countCost}
+use Rattle.block.specs.declared.Answer.{Answer}
+use Rattle.block.specs.declared.Answer.the-variants.{Count, Refused}
+use Rattle.least_cost.specs.Position.{nz}
+use Rattle.least_cost.specs.Search.{holder}
+use Rattle.prices.specs.Book.{Book}
+use Rattle.scan.specs.Scan.{levelAt}
+use Rattle.weights.specs.Window.{windowOf}
+use Rattle.weights.specs.declared.Window.{Window}
+
+-- 0.0
+abbrev pub none : Float
+none = fin false 0 (pos 0)
+
+-- ---- What stands around window position i. The nonzero levels behind it are `inputAfter b i`.
+-- the nonzero levels of all but position i, from scan position c on
+unfoldable pub othersOf : Block → ℕ → ℕ
+othersOf b i = inputAfter b i + nonzerosAmong (b .scan) (b .levels) (covered b) i
+
+-- whether the level in front is nonzero; 0 at the first position, whose `prev` goes by the count
+unfoldable pub frontOf : Block → ℕ → ℕ
+frontOf b zero = 0
+frontOf b (suc i) = nz (inputAt b (covered b + i))
+
+-- where the zeros begin that stand right in front of window position i; i itself where there are none
+unfoldable pub runStart : List ℕ → List ℤ → ℕ → ℕ → ℕ
+runStart scan levels c zero = 0
+runStart scan levels c (suc i) = cond (eqb (nz (levelAt scan levels (c + i))) 0) (runStart scan levels c i) (suc i)
+
+-- The tokens of n zeros from window position j on, in front of the last nonzero level, added to `sum` one by one, front to back.
+unfoldable pub zerosFrom : Book → Block → ℕ → ℕ → ℕ → Float → Float
+zerosFrom book b zero j prev sum = sum
+zerosFrom book b (suc n) j prev sum = zerosFrom book b n (suc j) 0 (add binary32 sum (tokenPrice book b 1 (covered b + j) prev (pos 0)))
+
+-- The run: with no nonzero level behind it, a nonzero level has the zeros right in front of it coded. The first of them has `prev` 1: a nonzero level stands before it,
+-- or it is the first position and the whole count is 1.
+unfoldable pub runOf : Book → Block → ℕ → Float
+runOf book b i =
+    let start = runStart (b .scan) (b .levels) (covered b) i in
+    cond (eqb (inputAfter b i) 0) (zerosFrom book b (i - start) start 1 none) none
+
+-- ---- What level q costs at window position i, by what stands around it
+unfoldable pub prevOf : Block → ℕ → ℕ → ℕ → ℕ
+prevOf b i front count = cond (eqb i 0) (firstPrev b count) front
+
+-- the token's price, and with a nonzero level the run's; nothing where no nonzero level remains
+unfoldable pub bitsOf : Book → Block → ℕ → ℕ → ℕ → Float → ℤ → Float
+bitsOf book b i remaining prev run q =
+    let token = tokenPrice book b remaining (covered b + i) prev q in
+    cond (eqb remaining 0) none (cond (eqb (nz q) 0) token (add binary32 token run))
+
+-- (distortion + rate * bits) + what the count costs
+unfoldable pub costOf : Book → Block → ℕ → ℕ → ℕ → ℕ → Float → ℤ → Float
+costOf book b i later others front run q =
+    let count = others + nz q in
+    let bits = bitsOf book b i (later + nz q) (prevOf b i front count) run q in
+    add binary32 (add binary32 (distortion b i q) (mul binary32 (rate b i q) bits)) (countCost book b count)
+
+unfoldable pub greedyCost : Book → Block → ℕ → ℤ → Float
+greedyCost book b i = costOf book b i (inputAfter b i) (othersOf b i) (frontOf b i) (runOf book b i)
+
+-- ---- The search
+-- a position stays as it is where it has one candidate, or holds a 0 behind which nothing is coded
+unfoldable pub stays : Window → Block → ℕ → Bool
+stays v b i = eqb (length (candidatesAt v b i)) 1 || (eqb (nz (inputAt b (covered b + i))) 0 && eqb (inputAfter b i) 0)
+
+-- the first least, in the list's order; the current level where no cost is finite
+unfoldable pub chosen : Window → Book → Block → ℕ → ℤ
+chosen v book b i =
+    let current = inputAt b (covered b + i) in
+    cond (stays v b i) current (holder (greedyCost book b i) (inf false) current (candidatesAt v b i))
+
+-- a block with other levels
+abbrev pub withLevels : Block → List ℤ → Block
+withLevels b x = blockOf (b .shape) (b .settings) (b .bias) (b .scale) (b .scan) (b .source) (b .inverse) x
+
+-- the levels with window position i settled
+unfoldable pub settledAt : Window → Book → Block → ℕ → List ℤ
+settledAt v book b i = set (b .levels) (getD (b .scan) (covered b + i) 0) (chosen v book b i)
+
+-- the levels with window positions n - 1, n - 2 .. 0 settled, in this order
+unfoldable pub settledFrom : Window → Book → ℕ → Block → List ℤ
+settledFrom v book zero b = b .levels
+settledFrom v book (suc n) b = settledFrom v book n (withLevels b (settledAt v book b n))
+
+unfoldable pub greedyLevels : Window → Book → Block → List ℤ
+greedyLevels v book b = settledFrom v book (v .length) b
+
+-- ---- What the call answers, and the levels that it leaves
+pub record Outcome : Type 0 where
+  pub answer : Answer
+  pub levels : List ℤ
+
+-- The count of nonzero levels from scan position c on; a refusal by one of checks 1 to 13 changes no level.
+unfoldable pub greedyOutcome : Book → Block → Outcome
+greedyOutcome book b =
+    let refusal = searchRefusal book b true in
+    let levels = greedyLevels (windowOf (covered b)) book b in
+    cond (eqb refusal 0)
+    (record { answer = Count (inputRemaining (withLevels b levels) (covered b)); levels = levels })
+    (record { answer = Refused refusal; levels = b .levels })

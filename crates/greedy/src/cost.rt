@@ -1,0 +1,228 @@
+// What a candidate costs, and the cheapest of them.
+use candidates::Candidates;
+use steps::Place;
+use steps::reading::Plan;
+ghost use mathlib.Core.Path.{_≡_};
+ghost use mathlib.Core.Bool.{false};
+ghost use Prim.Native.Nat.{_+_, _*_, _<_, _≤_};
+ghost use lib.Dec.{T};
+ghost use lib.Ieee.{inf};
+ghost use Rattle.ac_context.specs.Contexts.{Covered, Coefficient, zeroDensityContext};
+ghost use Rattle.bias.specs.Level.{isLevel};
+ghost use Rattle.block.specs.Block.{Block};
+ghost use Rattle.block.specs.Cost.{tokenPrice};
+ghost use Rattle.least_cost.specs.Search.{holder};
+ghost use Rattle.prices.specs.Book.{bookOf};
+ghost use Rattle.prices.specs.Checks.{bookRefusal};
+ghost use Rattle.steps.specs.Place.{placeOf};
+ghost use Rattle.steps.specs.Plan.{Planned, Coded, Usable, listed};
+ghost use Rattle.greedy.specs.Greedy.{prevOf, bitsOf, costOf};
+ghost use Rattle.greedy.specs.Reading.{considered};
+
+// The cheapest candidate so far.
+pub struct Best {
+    pub cost: f32,
+    pub level: i32,
+}
+
+// What stands around a position: the nonzero levels behind it and of all others, whether the level in front is nonzero, and the
+// price of the run.
+pub struct Around {
+    pub later: usize,
+    pub others: usize,
+    pub front: usize,
+    pub run: f32,
+}
+
+impl Best {
+    fn consider(self, cost: f32, level: i32) -> Best
+        ensures { λ r. ⌜ r ≡ considered self cost level ⌝ }
+    {
+        if cost < self.cost {
+            return Best { cost, level };
+        }
+        self
+    }
+}
+
+fn density(covered: usize, log2: u32, remaining: usize, k: usize, prev: usize) -> usize
+    requires { ⌜ Covered covered log2 ⌝ }
+    requires { ⌜ Coefficient covered remaining k prev ⌝ }
+    ensures { λ r. ⌜ (r ≡ zeroDensityContext covered remaining k prev) × (r < 458) ⌝ }
+{
+    if covered == 1 {
+        return ac_context::zero_density_context_8x8(remaining, k, prev);
+    }
+    ac_context::zero_density_context(remaining, k, covered, log2, prev)
+}
+
+// The price of a level's token.
+pub(crate) fn token_bits(
+    clusters: u32,
+    map: &[u8],
+    configs: &[u8],
+    symbols: &[f32],
+    ready: &[f32],
+    plan: Plan,
+    remaining: usize,
+    k: usize,
+    prev: usize,
+    level: i32,
+) -> f32
+    requires { ⌜ bookRefusal (bookOf clusters (now map) (now configs) (now symbols) (now ready)) ≡ 0 ⌝ }
+    requires { ⌜ Coded plan ⌝ }
+    requires { ⌜ Coefficient (plan .covered) remaining k prev ⌝ }
+    requires { ⌜ T (isLevel level) ⌝ }
+    ensures { λ r. ⌜ ((b : Block) → Planned b plan → r ≡ tokenPrice (bookOf clusters (now (map .entry)) (now (configs .entry)) (now (symbols .entry)) (now (ready .entry))) b remaining k prev level) ⌝ }
+{
+    let context = plan.offset + density(plan.covered, plan.log2, remaining, k, prev);
+    let value = packing::pack_signed(level);
+    prices::token_bits(clusters, map, configs, symbols, ready, context, value)
+}
+
+// `prev` at window position i: the first position's follows the block's count.
+fn prev_at(covered: usize, i: usize, front: usize, count: usize) -> usize
+    requires { ⌜ (covered ≤ 1024) × (front ≤ 1) ⌝ }
+    ensures { λ r. ⌜ ((b : Block) → covered ≡ Rattle.block.specs.Block.covered b → r ≡ prevOf b i front count) ⌝ }
+    ensures { λ r. ⌜ r ≤ 1 ⌝ }
+{
+    if i == 0 {
+        if count <= 64 * covered / 16 {
+            return 1;
+        }
+        return 0;
+    }
+    front
+}
+
+// The bits of a level, `remaining` counting it and all nonzero levels behind it.
+fn bits(
+    clusters: u32,
+    map: &[u8],
+    configs: &[u8],
+    symbols: &[f32],
+    ready: &[f32],
+    plan: Plan,
+    i: usize,
+    remaining: usize,
+    prev: usize,
+    run: f32,
+    level: i32,
+) -> f32
+    requires { ⌜ bookRefusal (bookOf clusters (now map) (now configs) (now symbols) (now ready)) ≡ 0 ⌝ }
+    requires { ⌜ Coded plan ⌝ }
+    requires { ⌜ (remaining + (plan .covered + i) ≤ 64 * plan .covered) × (prev ≤ 1) ⌝ }
+    requires { ⌜ T (isLevel level) ⌝ }
+    ensures { λ r. ⌜ ((b : Block) → Planned b plan → r ≡ bitsOf (bookOf clusters (now (map .entry)) (now (configs .entry)) (now (symbols .entry)) (now (ready .entry))) b i remaining prev run level) ⌝ }
+{
+    if remaining == 0 {
+        return 0.0;
+    }
+    let token = token_bits(
+        clusters,
+        map,
+        configs,
+        symbols,
+        ready,
+        plan,
+        remaining,
+        plan.covered + i,
+        prev,
+        level,
+    );
+    if level == 0 {
+        return token;
+    }
+    token + run
+}
+
+// What a candidate costs.
+fn candidate_cost(
+    clusters: u32,
+    map: &[u8],
+    configs: &[u8],
+    symbols: &[f32],
+    ready: &[f32],
+    plan: Plan,
+    place: Place,
+    i: usize,
+    around: Around,
+    level: i32,
+) -> f32
+    requires { ⌜ bookRefusal (bookOf clusters (now map) (now configs) (now symbols) (now ready)) ≡ 0 ⌝ }
+    requires { ⌜ Coded plan ⌝ }
+    requires { ⌜ (around .later + 1 + (plan .covered + i) ≤ 64 * plan .covered) × ((around .others < 64 * plan .covered) × (around .front ≤ 1)) ⌝ }
+    requires { ⌜ T (isLevel level) ⌝ }
+    ensures { λ r. ⌜ ((b : Block) → Planned b plan → place ≡ placeOf b (plan .log2) i
+        → r ≡ costOf (bookOf clusters (now (map .entry)) (now (configs .entry)) (now (symbols .entry)) (now (ready .entry))) b i (around .later) (around .others) (around .front) (around .run) level) ⌝ }
+{
+    let nonzero = steps::nonzero(level);
+    let count = around.others + nonzero;
+    let prev = prev_at(plan.covered, i, around.front, count);
+    let bits = bits(
+        clusters,
+        map,
+        configs,
+        symbols,
+        ready,
+        plan,
+        i,
+        around.later + nonzero,
+        prev,
+        around.run,
+        level,
+    );
+    let distortion = place.distortion(level);
+    let rated = place.rate(level) * bits;
+    let counted = steps::tokens::count_cost(clusters, map, configs, symbols, ready, plan, count);
+    distortion + rated + counted
+}
+
+// The first of the cheapest candidates; the current level where no cost is finite.
+pub(crate) fn cheapest(
+    clusters: u32,
+    map: &[u8],
+    configs: &[u8],
+    symbols: &[f32],
+    ready: &[f32],
+    plan: Plan,
+    place: Place,
+    candidates: Candidates,
+    i: usize,
+    around: Around,
+    current: i32,
+) -> i32
+    requires { ⌜ bookRefusal (bookOf clusters (now map) (now configs) (now symbols) (now ready)) ≡ 0 ⌝ }
+    requires { ⌜ Coded plan ⌝ }
+    requires { ⌜ (around .later + 1 + (plan .covered + i) ≤ 64 * plan .covered) × ((around .others < 64 * plan .covered) × (around .front ≤ 1)) ⌝ }
+    requires { ⌜ Usable candidates ⌝ }
+    requires { ⌜ T (isLevel current) ⌝ }
+    ensures { λ r. ⌜ ((b : Block) → Planned b plan → place ≡ placeOf b (plan .log2) i
+        → r ≡ holder (costOf (bookOf clusters (now (map .entry)) (now (configs .entry)) (now (symbols .entry)) (now (ready .entry))) b i (around .later) (around .others) (around .front) (around .run)) (inf false) current (listed candidates)) ⌝ }
+    ensures { λ r. ⌜ T (isLevel r) ⌝ }
+{
+    let count = candidates.count;
+    let mut best = Best {
+        cost: costs::infinity(),
+        level: current,
+    };
+    let mut j = 0;
+    while j < count {
+        let level = candidates.levels[j];
+        let cost = candidate_cost(
+            clusters,
+            map,
+            configs,
+            symbols,
+            ready,
+            plan,
+            place,
+            i,
+            around,
+            level,
+        );
+        best = best.consider(cost, level);
+        j += 1;
+    }
+    best.level
+}
