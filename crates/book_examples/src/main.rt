@@ -167,60 +167,85 @@ fn all_lengths(map: &[u8]) {
     lengths(map, b"ready prices not filled: ", 1, 3, 128, 256);
 }
 
-// Symbol 1 has depth 3, all others depth 0.
-fn prefix_code(text: &[u8], map: &[u8], single: u8, strict: bool) {
+// The ready prices of a book with one cluster, as they are filled, but that of 3 is wrong.
+fn fill_but_one(map: &[u8], configs: &[u8], symbols: &[f32], ready: &mut [f32])
+    requires { ⌜ 256 ≡ length (now ready) ⌝ }
+{
+    fill_ready(1, map, configs, symbols, ready);
+    ready[3] = 0.0;
+}
+
+fn price(text: &[u8], map: &[u8], symbols: &[f32], context: u32, value: u32) {
     let configs: [u8; 3] = [4, 2, 0];
+    let mut ready: [f32; 256] = [0.0; 256];
+    fill_but_one(map, &configs, symbols, &mut ready);
+    say_price(
+        text,
+        token_bits(1, map, &configs, symbols, &ready, context, value),
+    );
+}
+
+fn pair(text: &[u8], map: &[u8], symbols: &[f32], context: u32, value: u32) {
+    let configs: [u8; 3] = [4, 2, 0];
+    let mut ready: [f32; 256] = [0.0; 256];
+    fill_but_one(map, &configs, symbols, &mut ready);
+    say_pair(
+        text,
+        token_bits_pair(1, map, &configs, symbols, &ready, context, value),
+    );
+}
+
+// Symbol 1 has depth 3, all others depth 0.
+fn prefix_code(zero: &[u8], three: &[u8], map: &[u8], single: u8, strict: bool) {
     let mut depths: [u8; 128] = [0; 128];
     depths[1] = 3;
     let singles = [single];
     let mut symbols: [f32; 128] = [1.0; 128];
-    let mut ready: [f32; 256] = [1.0; 256];
     prefix_symbol_bits(1, &depths, &singles, strict, &mut symbols);
-    fill_ready(1, map, &configs, &symbols, &mut ready);
-    io::write_all(STDOUT_FILENO, text);
-    say_price(
-        b", depth 0: ",
-        token_bits(1, map, &configs, &symbols, &ready, 0, 0),
-    );
-    io::write_all(STDOUT_FILENO, text);
-    say_price(
-        b", depth 3: ",
-        token_bits(1, map, &configs, &symbols, &ready, 0, 1),
-    );
+    price(zero, map, &symbols, 0, 0);
+    price(three, map, &symbols, 0, 1);
 }
 
 fn prefix_codes(map: &[u8]) {
-    prefix_code(b"prefix code", map, 0, false);
-    prefix_code(b"strict prefix code", map, 0, true);
-    prefix_code(b"code of a single symbol", map, 2, false);
+    prefix_code(
+        b"prefix code, depth 0: ",
+        b"prefix code, depth 3: ",
+        map,
+        0,
+        false,
+    );
+    prefix_code(
+        b"strict prefix code, depth 0: ",
+        b"strict prefix code, depth 3: ",
+        map,
+        0,
+        true,
+    );
+    prefix_code(
+        b"code of a single symbol, depth 0: ",
+        b"code of a single symbol, depth 3: ",
+        map,
+        2,
+        false,
+    );
 }
 
-// Every symbol price is 1, and the ready prices are filled, but for that of 3.
-fn price(text: &[u8], map: &[u8], context: u32, value: u32) {
-    let configs: [u8; 3] = [4, 2, 0];
+// Every symbol price is 1.
+fn price_and_pair(text: &[u8], map: &[u8], context: u32, value: u32) {
     let symbols: [f32; 128] = [1.0; 128];
-    let mut ready: [f32; 256] = [0.0; 256];
-    fill_ready(1, map, &configs, &symbols, &mut ready);
-    ready[3] = 0.0;
-    say_price(
-        text,
-        token_bits(1, map, &configs, &symbols, &ready, context, value),
-    );
-    say_pair(
-        text,
-        token_bits_pair(1, map, &configs, &symbols, &ready, context, value),
-    );
+    price(text, map, &symbols, context, value);
+    pair(text, map, &symbols, context, value);
 }
 
 fn prices(map: &[u8]) {
-    price(b"price of 15: ", map, 0, 15);
-    price(b"price of 16: ", map, 0, 16);
-    price(b"price of 255: ", map, 0, 255);
-    price(b"price of 65,536: ", map, 0, 65536);
-    price(b"price of 131,072: ", map, 0, 131072);
-    price(b"price of 3, not kept: ", map, 0, 3);
-    price(b"price in the last context: ", map, 14849, 0);
-    price(b"price past the last context: ", map, 14850, 0);
+    price_and_pair(b"price of 15: ", map, 0, 15);
+    price_and_pair(b"price of 16: ", map, 0, 16);
+    price_and_pair(b"price of 255: ", map, 0, 255);
+    price_and_pair(b"price of 65,536: ", map, 0, 65536);
+    price_and_pair(b"price of 131,072: ", map, 0, 131072);
+    price_and_pair(b"price of 3, not kept: ", map, 0, 3);
+    price_and_pair(b"price in the last context: ", map, 14849, 0);
+    price_and_pair(b"price past the last context: ", map, 14850, 0);
 }
 
 fn short_map(map: &[u8])
