@@ -11,3 +11,4 @@ pub mod Counts
 pub mod Whole
 pub mod Infinite
 pub mod Main
+pub mod Examples

@@ -92,12 +92,12 @@ next-fits w i h = omega arith
 row-room : (upto base least most long : ℕ) → base ≡ least → upto ≤ most → most ≤ least + 13 → 28 ≤ long → 2 * (upto - base) + 1 < long
 row-room upto base least most long e f g h = omega arith
 
-room-left : (m a past w i c : ℕ) → m ≡ min a (past + (w - 1 - i)) + 1 → i < w → past ≤ 64 * c - (c + w) → c + w ≤ 64 * c → m + (c + i) ≤ 64 * c
+pub room-left : (m a past w i c : ℕ) → m ≡ min a (past + (w - 1 - i)) + 1 → i < w → past ≤ 64 * c - (c + w) → c + w ≤ 64 * c → m + (c + i) ≤ 64 * c
 room-left m a past w i c e h l f =
     let most : min a (past + (w - 1 - i)) ≤ past + (w - 1 - i) = min-le-right a (past + (w - 1 - i)) in
     omega arith
 
-least-most : (l m past after left : ℕ) → l ≡ max past (after - 6) → m ≡ min (after + 6) (past + left) + 1 → past ≤ after → after ≤ past + left → l ≤ m
+pub least-most : (l m past after left : ℕ) → l ≡ max past (after - 6) → m ≡ min (after + 6) (past + left) + 1 → past ≤ after → after ≤ past + left → l ≤ m
 least-most l m past after left e f p q = omega arith
 
 low-part : (past after r : ℕ) → past ≤ r → after - 6 ≤ r → max past (after - 6) ≤ r
@@ -115,6 +115,9 @@ high-part past after r w i h l m =
 module _ {book : Book} {b : Block} {p : Plan} (K : Checked book b p) where
   P : Passed (windowOf (covered b)) b
   P = passed b (K .block-passed)
+
+  pub passed-block : Passed (windowOf (covered b)) b
+  passed-block = P
 
   pub readable-here : (i : ℕ) → i < windowLength b → Readable (b .scan) (b .source) (b .inverse) (b .levels) (p .scale) (p .covered + i)
   readable-here i h = rw (K .planned .source-is, K .planned .covered-is) (readable P i h)
@@ -156,7 +159,7 @@ module _ {book : Book} {b : Block} {p : Plan} (K : Checked book b p) where
       let one : windowLength b - i ≡ suc (windowLength b - suc i) = omega arith in
       rw one
 
-  after-same : (i : ℕ) → inputAfter b i ≡ inputRemaining b (covered b + suc i)
+  pub after-same : (i : ℕ) → inputAfter b i ≡ inputRemaining b (covered b + suc i)
   unfolding inputAfter
   after-same i =
       let same : covered b + i + 1 ≡ covered b + suc i = omega arith in
@@ -176,7 +179,7 @@ module _ {book : Book} {b : Block} {p : Plan} (K : Checked book b p) where
       let here = remaining-step k (omega arith) in
       (omega (arith, later .0), omega (arith, later .1, nz-le (inputAt b k)))
 
-  past-after : (i : ℕ) → i < windowLength b
+  pub past-after : (i : ℕ) → i < windowLength b
       → (pastWindow (windowOf (covered b)) b ≤ inputRemaining b (covered b + suc i)) × (inputRemaining b (covered b + suc i) ≤ pastWindow (windowOf (covered b)) b + (windowLength b - 1 - i))
   unfolding pastWindow
   past-after i h = between (covered b + windowLength b) (windowLength b - 1 - i) (covered b + suc i) (ends (covered b) (windowLength b) i h) (P .window .fits)
@@ -298,6 +301,7 @@ module _ {book : Book} {b : Block} {p : Plan} (K : Checked book b p) where
             };
             elsewhere = wider E (row-width (c .least) (c .most) counts-narrow);
             after-is = e ∙ counted;
+            counts-are = record { least = cl; most = cm };
           }
         where
           counted : inputRemaining b (covered b + suc i) + nz (spot .level) ≡ inputRemaining b (covered b + i)

@@ -62,6 +62,7 @@ rowed-start book b past first second choices e w =
           };
       chosen = record { each = λ j l h. absurd (omega arith) };
       after-is = e;
+      counts-are = λ h. absurd (omega arith);
     }
   where
     value : (r p : ℕ) → past ≤ r → r ≤ past → p ≤ 1 → getD first (2 * (r - past) + p) nan ≡ best (tail book b) [] r p
@@ -114,7 +115,7 @@ module _ {book : Book} {b : Block} {i : ℕ} {first second : List Float} {choice
   chosen-back = subst⁻¹ (λ (k : ℕ). ChosenFrom book b k choices) (again i h) (w .chosen)
 
   pub to-second : {row row' : List Float} {choices' : List ℕ} {s' : Step} → Stepped book b (i - 1) row row' choices choices' s' → Rowed book b (i - 1) first row' choices' s' false
-  to-second v = record { live = v .row-is; chosen = chosen-more (v .elsewhere) (v .chosen) chosen-back; after-is = v .after-is }
+  to-second v = record { live = v .row-is; chosen = chosen-more (v .elsewhere) (v .chosen) chosen-back; after-is = v .after-is; counts-are = λ _. v .counts-are }
 
   pub to-first : {row row' : List Float} {choices' : List ℕ} {s' : Step} → Stepped book b (i - 1) row row' choices choices' s' → Rowed book b (i - 1) row' second choices' s' true
-  to-first v = record { live = v .row-is; chosen = chosen-more (v .elsewhere) (v .chosen) chosen-back; after-is = v .after-is }
+  to-first v = record { live = v .row-is; chosen = chosen-more (v .elsewhere) (v .chosen) chosen-back; after-is = v .after-is; counts-are = λ _. v .counts-are }

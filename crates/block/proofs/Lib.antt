@@ -1,0 +1,2 @@
+-- What the definitions say, in small cases.
+pub mod Examples
