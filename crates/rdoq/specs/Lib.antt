@@ -4,3 +4,4 @@ pub mod Contexts
 pub mod Dequant
 pub mod Weighing
 pub mod Levels
+pub mod Prices

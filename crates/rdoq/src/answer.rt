@@ -17,6 +17,12 @@ pub enum Real {
     Refused(u32),
 }
 
+// Two floats, or the number of the refusal.
+pub enum RealPair {
+    Value(f32, f32),
+    Refused(u32),
+}
+
 // A value's symbol with its extra bits, or the number of the refusal.
 pub enum Token {
     Value(Split),

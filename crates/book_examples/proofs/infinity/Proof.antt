@@ -1,0 +1,15 @@
+-- `infinity` meets its contract. Assumes nothing.
+use lib.Ieee.{nanBits}
+use borrow.Author.Needs.{needs}
+use Rattle.book_examples.proofs.infinity.Statement.{statement}
+use Rattle.book_examples.proofs.infinity.Tie as tie
+
+float-from-bits-result : tie.Need-float-from-bits-result
+unfolding nanBits
+float-from-bits-result c = tt
+
+returns : tie.Need-returns
+returns c = search needs
+
+pub infinity-spec : {M : Type 1} → statement M
+infinity-spec = tie.close (tie.spec float-from-bits-result returns)
