@@ -3,4 +3,5 @@ mod clear;
 mod count;
 mod exchange;
 mod position;
+mod search;
 mod walk;
