@@ -128,3 +128,12 @@ pub record FoundIn (book : Book) (b : Block) (choices : List ℕ) (f : Found) : 
   pub past-is : f .past ≡ pastWindow (windowOf (covered b)) b
   pub nonzeros-are : f .nonzeros ≡ inputRemaining b (covered b)
   pub chosen : ChosenFrom book b 0 choices
+
+-- a search that is done, and what it was of
+pub record Done (scan : List ℕ) (source inverse : List Float) (levels : List ℤ) (plan : Plan) (choices : List ℕ) (f : Found) : Type 0 where
+  pub book : Book
+  pub block : Block
+  pub lists : Lists block scan source inverse levels
+  pub checked : Checked book block plan
+  pub found : FoundIn book block choices f
+  pub room : 28 * windowLength block ≤ length choices

@@ -1,7 +1,9 @@
 // The whole search of a block that passed its checks.
 use crate::count;
 use crate::exchange;
+use crate::walk;
 use bias::DequantBias;
+use block::Answer;
 use block::Shape;
 use steps::reading::Plan;
 use steps::tokens;
@@ -15,7 +17,8 @@ ghost use Rattle.prices.specs.Book.{bookOf};
 ghost use Rattle.prices.specs.Checks.{bookRefusal};
 ghost use Rattle.steps.specs.Plan.{Planned, Coded, Whole};
 ghost use Rattle.weights.specs.Window.{windowOf};
-ghost use Rattle.trellis.specs.Rows.{windowLength, Checked, TailRow, Kept, FoundIn};
+ghost use Rattle.trellis.specs.Rows.{windowLength, Checked, TailRow, Kept, FoundIn, Done};
+ghost use Rattle.trellis.specs.Outcome.{answered, written};
 
 // The least cost and its count, and the nonzero input levels past the window and from its first position on.
 pub struct Found {
@@ -76,6 +79,39 @@ fn start_row(
         1,
     );
     past
+}
+
+// Writes the levels of a finite least cost; else refuses with 15.
+pub(crate) fn write_found(
+    scan: &[u32],
+    source: &[f32],
+    inv_qm: &[f32],
+    levels: &mut [i32],
+    plan: Plan,
+    choices: &[u8],
+    found: Found,
+) -> Answer
+    requires { ⌜ Done (now scan) (now source) (now «inv_qm») (now levels) plan (now choices) found ⌝ }
+    ensures { λ r. ⌜ ((d : Done (now (scan .entry)) (now (source .entry)) (now («inv_qm» .entry)) (now (levels .entry)) plan (now (choices .entry)) found) → (r ≡ answered (d .book) (d .block)) × (now (levels .exit) ≡ written (d .book) (d .block))) ⌝ }
+{
+    if found.cost < costs::infinity() {
+        walk::write_levels(
+            scan,
+            source,
+            inv_qm,
+            levels,
+            plan,
+            found.past,
+            found.nonzeros,
+            choices,
+            found.count,
+        );
+        return Answer::Cost {
+            cost: found.cost,
+            count: found.count as u32,
+        };
+    }
+    Answer::Refused(15)
 }
 
 pub(crate) fn search(
