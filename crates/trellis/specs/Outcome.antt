@@ -41,3 +41,6 @@ bandedOutcome book b l =
 -- the arguments of a call as what is lent
 abbrev pub lentOf : List ℤ → List ℕ → List Float → List Float → Lent
 lentOf levels choices rowA rowB = record { levels = levels; choices = choices; rowA = rowA; rowB = rowB }
+
+abbrev pub resultOf : Answer → List ℤ → List ℕ → List Float → List Float → Result
+resultOf answer levels choices rowA rowB = record { answer = answer; lent = lentOf levels choices rowA rowB }
