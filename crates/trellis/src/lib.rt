@@ -19,7 +19,7 @@ ghost use Rattle.trellis.specs.Outcome.{bandedOutcome, lentOf, resultOf}
 // refuses with 15 where every choice there needs a token of infinite price. Both ways the choice bytes end as 255 and the rows as
 // +infinity. Refused by one of checks 1 to 14, nothing changes. A level written may be 32,768 in size, which check 12 refuses in a
 // later call.
-pub fn rdoq_block_banded(
+pub(crate) fn rdoq_block_banded(
     clusters: u32,
     map: &[u8],
     configs: &[u8],
