@@ -22,6 +22,7 @@ use Rattle.laws.proofs.Tests.{and-left, and-right}
 use Rattle.prices.specs.Book.{Book}
 use Rattle.prices.specs.Checks.{bookRefusal}
 use Rattle.steps.proofs.Counting.{among-most}
+use Rattle.steps.proofs.Plans.{planned-lists}
 use Rattle.steps.specs.Plan.{Planned, Lists, Whole}
 use Rattle.steps.specs.declared.reading.Plan.{Plan}
 use Rattle.weights.specs.Window.{windowOf, baseLen}
@@ -59,22 +60,7 @@ module _ {p : Plan} {scan : List ℕ} {source inverse : List Float} {levels : Li
 
 -- ---- the pass, down to window position i
 pub planned-with : {b : Block} {p : Plan} → Planned b p → (x : List ℤ) → Planned (withLevels b x) p
-unfolding covered contextOf
-planned-with w x =
-    record {
-      covered-is = w .covered-is;
-      covers = w .covers;
-      window-is = w .window-is;
-      base-is = w .base-is;
-      offset-is = w .offset-is;
-      count-is = w .count-is;
-      scale-is = w .scale-is;
-      distance-is = w .distance-is;
-      bias-is = w .bias-is;
-      lambda-is = w .lambda-is;
-      restore-is = w .restore-is;
-      source-is = w .source-is;
-    }
+planned-with {b} w x = planned-lists b w (b .scan) (b .source) (b .inverse) x
 
 pub record SoFar (p : Plan) (book : Book) (scan : List ℕ) (source inverse : List Float) (first levels : List ℤ) (counts : Counts) (i : ℕ) : Type 0 where
   pub upto : i ≤ p .window .length
@@ -134,47 +120,8 @@ module _ {p : Plan} (book : Book) {scan : List ℕ} {source inverse : List Float
       rw none at (s .rest b l w) ∙ ap (λ (v : Window). settledFrom (windowOf (covered b)) book (v .length) b) (w .window-is)
 
 -- ---- the call
-module _ {shape : Shape} {settings : Settings} {bias : DequantBias} {scale : Float} {p : Plan} (w : Planned (blockOf shape settings bias scale [] [] [] []) p)
-    (scan : List ℕ) (source inverse : List Float) (levels : List ℤ) where
-  -- a plan goes by no list
-  pub planned-lists : Planned (blockOf shape settings bias scale scan source inverse levels) p
-  unfolding covered contextOf
-  planned-lists =
-      record {
-        covered-is = w .covered-is;
-        covers = w .covers;
-        window-is = w .window-is;
-        base-is = w .base-is;
-        offset-is = w .offset-is;
-        count-is = w .count-is;
-        scale-is = w .scale-is;
-        distance-is = w .distance-is;
-        bias-is = w .bias-is;
-        lambda-is = w .lambda-is;
-        restore-is = w .restore-is;
-        source-is = w .source-is;
-      }
-
 pub own-lists : (b : Block) → Lists b (b .scan) (b .source) (b .inverse) (b .levels)
 own-lists b = record { scan-is = refl; source-is = refl; inverse-is = refl; levels-is = refl }
-
--- the sides of a block that passed
-pub sides : (b : Block) → blockRefusal (windowOf (covered b)) b 0 ≡ 0 → (isPowerBelow 6 (b .shape .cx) ≡ true) × (isPowerBelow 6 (b .shape .cy) ≡ true)
-unfolding blockRefusal check7
-sides b e = (and-left x y seven, and-right x y seven)
-  where
-    x : Bool
-    x = isPowerBelow 6 (b .shape .cx)
-
-    y : Bool
-    y = isPowerBelow 6 (b .shape .cy)
-
-    go : (t : Bool) (n : ℕ) → cond t n 7 ≡ 0 → t ≡ true
-    go true n h = refl
-    go false n h = absurd (omega arith)
-
-    seven : (x && y) ≡ true
-    seven = go (x && y) _ e
 
 small-base : (c : ℕ) → baseLen c ≤ 1024
 small-base c = le-trans (min-le-left (min (24 * c) 64) (63 * c)) (le-trans (min-le-right (24 * c) 64) (lit≤ tt))

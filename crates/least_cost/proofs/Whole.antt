@@ -91,7 +91,7 @@ module _ (w : Problem) (S : Sound w) where
     in-range : Mem (leastCount w) (upFrom (w .fewest) (w .width))
     in-range = found-mem (total w) (inf false) (upFrom (w .fewest) (w .width)) (leastTotal w) (leastCount w) (counted-first h)
 
-    best-finite : T (finite (best (w .tail) (w .positions) (leastCount w) (w .firstPrev (leastCount w))))
+    pub best-finite : T (finite (best (w .tail) (w .positions) (leastCount w) (w .firstPrev (leastCount w))))
     unfolding total
     best-finite =
         let n = leastCount w in

@@ -3,3 +3,4 @@ pub mod Spots
 pub mod Counting
 pub mod Tails
 pub mod Local
+pub mod Plans

@@ -28,6 +28,7 @@ use Rattle.least_cost.proofs.Trial.{trial-listed, nz-le}
 use Rattle.prices.specs.Book.{Book}
 use Rattle.scan.specs.Scan.{Perm, levelAt, put}
 use Rattle.scan.proofs.Through.{put-more, put-after, put-length}
+use Rattle.steps.proofs.Plans.{planned-lists}
 use Rattle.steps.proofs.Zero.{handed-back, level-back}
 use Rattle.steps.specs.Plan.{Planned, Lists, Readable, Spotted, Usable, listed}
 use Rattle.steps.specs.declared.reading.Plan.{Plan}
@@ -152,23 +153,7 @@ module _ {scan : List ℕ} {source inverse : List Float} {levels₀ : List ℤ} 
     now-block = blockOf (w .block .shape) (w .block .settings) (w .block .bias) (w .block .scale) (w .block .scan) (w .block .source) (w .block .inverse) levels
 
     planned-now : Planned now-block plan
-    unfolding covered contextOf
-    planned-now =
-        let k = w .checked .planned in
-        record {
-          covered-is = k .covered-is;
-          covers = k .covers;
-          window-is = k .window-is;
-          base-is = k .base-is;
-          offset-is = k .offset-is;
-          count-is = k .count-is;
-          scale-is = k .scale-is;
-          distance-is = k .distance-is;
-          bias-is = k .bias-is;
-          lambda-is = k .lambda-is;
-          restore-is = k .restore-is;
-          source-is = k .source-is;
-        }
+    planned-now = planned-lists (w .block) (w .checked .planned) (w .block .scan) (w .block .source) (w .block .inverse) levels
 
     lists-now : Lists now-block scan source inverse levels
     lists-now = record { scan-is = w .lists .scan-is; source-is = w .lists .source-is; inverse-is = w .lists .inverse-is; levels-is = refl }

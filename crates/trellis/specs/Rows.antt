@@ -13,7 +13,8 @@ use Rattle.block.specs.Band.{positionAt, positionsFrom, tailOf, pastWindow, pro
 use Rattle.block.specs.Checks.{blockRefusal}
 use Rattle.block.specs.Cost.{firstPrev}
 use Rattle.least_cost.specs.Position.{Position, Tail}
-use Rattle.least_cost.specs.Search.{Problem, best, walk}
+use Rattle.least_cost.specs.Search.{Problem, best, walk, leastTotal}
+use Rattle.least_cost.specs.Search as Search
 use Rattle.prices.specs.Book.{Book}
 use Rattle.prices.specs.Checks.{bookRefusal}
 use Rattle.steps.specs.Plan.{Planned, Coded, Lists}
@@ -24,6 +25,7 @@ use Rattle.weights.specs.Window.{windowOf}
 use Rattle.trellis.specs.declared.count.Best.{Best}
 use Rattle.trellis.specs.declared.position.Counts.{Counts}
 use Rattle.trellis.specs.declared.position.Step.{Step}
+use Rattle.trellis.specs.declared.search.Found.{Found}
 
 -- the window of a block
 abbrev pub windowLength : Block → ℕ
@@ -118,3 +120,20 @@ pub record Walkable (scan : List ℕ) (source inverse : List Float) (levels : Li
 -- the levels of the walk from `count` on
 abbrev pub walked : Book → Block → ℕ → List ℤ
 walked book b count = walk (tail book b) (positions book b 0) count (firstPrev b count)
+
+-- what the search of a block finds, and the choices that lead to it
+pub record FoundIn (book : Book) (b : Block) (choices : List ℕ) (f : Found) : Type 0 where
+  pub cost-is : f .cost ≡ leastTotal (problem book b)
+  pub count-is : f .count ≡ Search.leastCount (problem book b)
+  pub past-is : f .past ≡ pastWindow (windowOf (covered b)) b
+  pub nonzeros-are : f .nonzeros ≡ inputRemaining b (covered b)
+  pub chosen : ChosenFrom book b 0 choices
+
+-- a search that is done, and what it was of
+pub record Done (scan : List ℕ) (source inverse : List Float) (levels : List ℤ) (plan : Plan) (choices : List ℕ) (f : Found) : Type 0 where
+  pub book : Book
+  pub block : Block
+  pub lists : Lists block scan source inverse levels
+  pub checked : Checked book block plan
+  pub found : FoundIn book block choices f
+  pub room : 28 * windowLength block ≤ length choices

@@ -1,5 +1,6 @@
 use Rattle.block_checks.proofs.Laws.{passed, refused-book, refused-block}
-use Rattle.greedy.proofs.Settling.{planned-lists, own-lists, sides, fitting-of, ready-of, counted-few, refused-outcome, settled-outcome}
+use Rattle.greedy.proofs.Settling.{own-lists, fitting-of, ready-of, counted-few, refused-outcome, settled-outcome}
+use Rattle.steps.proofs.Plans.{planned-lists}
 use mathlib.Core.Bool.{true}
 use mathlib.Core.Path.{sym, _∙_}
 use native.Mathlib.Omega.{arith}
@@ -30,13 +31,13 @@ plan-of-requires c κs =
     let ok = sym (c .before .before .before .before .check-book .ensures) ∙ c .before .before .before .if1 .left in
     let passes = sym (c .before .check-block .ensures) ∙ c .if2 .left in
     let a = passed _ passes in
-    (sides _ passes, (a .strategy, a .channel))
+    ((a .first-side, a .second-side), (a .strategy, a .channel))
 
 settle-requires : tie.Need-settle-requires
 settle-requires c κs =
     let ok = sym (c .before .before .before .before .before .before .check-book .ensures) ∙ c .before .before .before .before .before .if1 .left in
     let passes = sym (c .before .before .before .check-block .ensures) ∙ c .before .before .if2 .left in
-    let planned = planned-lists (c .before .plan-of .ensures .0) _ _ _ _ in
+    let planned = planned-lists _ (c .before .plan-of .ensures .0) _ _ _ _ in
     let a = passed _ passes in
     (ok, (c .before .plan-of .ensures .1, (fitting-of a planned, ready-of a planned)))
 
@@ -44,7 +45,7 @@ cast-t23 : tie.Need-cast-t23
 cast-t23 c =
     let ok = sym (c .before .before .before .before .before .before .before .before .check-book .ensures) ∙ c .before .before .before .before .before .before .before .if1 .left in
     let passes = sym (c .before .before .before .before .before .check-block .ensures) ∙ c .before .before .before .before .if2 .left in
-    let planned = planned-lists (c .before .before .before .plan-of .ensures .0) _ _ _ _ in
+    let planned = planned-lists _ (c .before .before .before .plan-of .ensures .0) _ _ _ _ in
     let a = passed _ passes in
     record { fits = omega (arith, counted-few _ _ _ (c .before .settle .ensures .1), fitting-of a planned .most) }
 
@@ -55,7 +56,7 @@ returns-3 : tie.Need-returns-3
 returns-3 c =
     let ok = sym (c .before .before .before .before .before .before .before .before .check-book .ensures) ∙ c .before .before .before .before .before .before .before .if1 .left in
     let passes = sym (c .before .before .before .before .before .check-block .ensures) ∙ c .before .before .before .before .if2 .left in
-    let planned = planned-lists (c .before .before .before .plan-of .ensures .0) _ _ _ _ in
+    let planned = planned-lists _ (c .before .before .before .plan-of .ensures .0) _ _ _ _ in
     settled-outcome _ _ ok passes planned (c .before .settle .ensures .0 _ (own-lists _) planned) (c .before .settle .ensures .1)
 
 pub rdoq-block-greedy-spec : {M : Type 1} → statement M

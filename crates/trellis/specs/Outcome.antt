@@ -1,0 +1,46 @@
+-- What the trellis answers, and what every lent buffer holds afterwards (document 01).
+use Prim.Native.Nat.{ℕ}
+use mathlib.Core.Bool.{cond}
+use mathlib.Core.List.{List}
+use lib.Dec.{eqb}
+use lib.IntN.{ℤ}
+use lib.ListN.{length}
+use lib.Ieee.{Float}
+use lib.Ieee.Scale.{finite}
+use Rattle.block.specs.Band.{halfWidth}
+use Rattle.block.specs.Block.{Block, covered}
+use Rattle.block.specs.Checks.{searchRefusal, trellisRoom}
+use Rattle.block.specs.Outcome.{Lent, Result, cleared, refused}
+use Rattle.block.specs.declared.Answer.{Answer}
+use Rattle.block.specs.declared.Answer.the-variants.{Cost, Refused}
+use Rattle.least_cost.specs.Search.{leastTotal, leastCount, leastLevels}
+use Rattle.prices.specs.Book.{Book}
+use Rattle.scan.specs.Scan.{put}
+use Rattle.trellis.specs.Rows.{windowLength, problem}
+
+-- the least cost in the band and its count, or 15 where it is infinite
+unfoldable pub answered : Book → Block → Answer
+answered book b =
+    let p = problem book b in
+    cond (finite (leastTotal p)) (Cost (leastTotal p) (leastCount p)) (Refused 15)
+
+-- the levels that have it, each at its place; after 15 the block is as it was
+unfoldable pub written : Book → Block → List ℤ
+written book b =
+    let p = problem book b in
+    cond (finite (leastTotal p)) (put (b .scan) (leastLevels p) (covered b) (windowLength b) (b .levels)) (b .levels)
+
+-- Refused by a check of 1 to 14, nothing changes; else the room is cleared. The lent levels are the block's.
+unfoldable pub bandedOutcome : Book → Block → Lent → Result
+bandedOutcome book b l =
+    let number = searchRefusal book b (trellisRoom halfWidth (windowLength b) (length (l .choices)) (length (l .rowA)) (length (l .rowB))) in
+    cond (eqb number 0)
+    (record { answer = answered book b; lent = cleared (record { levels = written book b; choices = l .choices; rowA = l .rowA; rowB = l .rowB }) })
+    (refused number l)
+
+-- the arguments of a call as what is lent
+abbrev pub lentOf : List ℤ → List ℕ → List Float → List Float → Lent
+lentOf levels choices rowA rowB = record { levels = levels; choices = choices; rowA = rowA; rowB = rowB }
+
+abbrev pub resultOf : Answer → List ℤ → List ℕ → List Float → List Float → Result
+resultOf answer levels choices rowA rowB = record { answer = answer; lent = lentOf levels choices rowA rowB }
