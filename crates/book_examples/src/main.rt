@@ -112,7 +112,7 @@ fn ready_price(text: &[u8], map: &[u8], price: f32, at: usize, kept: f32)
     say(text, check_book(1, map, &configs, &symbols, &ready));
 }
 
-// One above 1.0 and 6.0 in the order of floats.
+// At symbol price 1.0 value 0 costs 1.0 and value 255, with 5 extra bits, 6.0; the floats that follow these are one bit off.
 fn ready_prices(map: &[u8]) {
     ready_price(b"ready price as due: ", map, 1.0, 255, 6.0);
     ready_price(
