@@ -29,7 +29,7 @@ use Rattle.scan.specs.Scan.{onceBelow, eachOnce, levelAt}
 use Rattle.weights.specs.Settings.{isDistance, validSettings, channelScale, weightAt}
 use Rattle.weights.specs.Weights.{clamp, chromaWeight, distortionWeight}
 use Rattle.block.specs.Checks.{check7, check8, check9, check10, check11, check12, check13, blockRefusal}
-use Rattle.prices.specs.Checks.{each, symbolPrice, sameBits, check1, check2, mapBelow, check3, check4, allPriced, check5, rowKept, check6, firstFive, bookRefusal}
+use Rattle.prices.specs.Checks.{each, symbolPrice, sameBits, check1, check2, mapBelow, check3, check4, allPriced, check5, rowKept, check6, firstFive, firstTwo, bookRefusal}
 use Rattle.prices.proofs.Each.{each-all}
 use Rattle.block_checks.specs.Passed.{Passed}
 use Rattle.block_checks.proofs.Laws.{passed}
@@ -47,7 +47,7 @@ use Rattle.worked.specs.Cases.{whole, never, checked, zeros, blockWith}
 -- ---- the book passes checks 1 to 6
 
 passes : (b : Book) → check1 b ≡ true → check2 b ≡ true → check3 b ≡ true → check4 b ≡ true → check5 b ≡ true → check6 b ≡ true → bookRefusal b ≡ 0
-unfolding bookRefusal firstFive
+unfolding bookRefusal firstFive firstTwo
 passes b c1 c2 c3 c4 c5 c6 = rw (c1, c2, c3, c4, c5, c6)
 
 one-cluster : (n : ℕ) → mapBelow 1 (replicate n 0) ≡ true
