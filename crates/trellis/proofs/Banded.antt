@@ -23,7 +23,8 @@ use Rattle.steps.specs.Plan.{Planned, Coded}
 use Rattle.steps.specs.declared.reading.Plan.{Plan}
 use Rattle.weights.specs.declared.Window.{Window}
 use Rattle.weights.specs.Window.{windowOf}
-use Rattle.trellis.specs.Rows.{windowLength, Checked, FoundIn, Done}
+use Rattle.trellis_table.specs.Rows.{windowLength, Checked}
+use Rattle.trellis.specs.Walk.{FoundIn, Done}
 use Rattle.trellis.specs.Outcome.{answered, written, refusal, bandedOutcome, lentOf, resultOf}
 use Rattle.trellis.specs.declared.search.Found.{Found}
 

@@ -32,7 +32,7 @@ use Rattle.scan.specs.Scan.{put}
 use Rattle.weights.specs.Window.{windowOf}
 use Rattle.trellis.specs.Demand.{inWindow, RefusedExactly, LeastCost, LeastAnswered}
 use Rattle.trellis.specs.Outcome.{answered, written, refusal, bandedOutcome, resultOf}
-use Rattle.trellis.specs.Rows.{windowLength, problem}
+use Rattle.trellis_table.specs.Rows.{windowLength, problem}
 use Rattle.trellis.proofs.Main.{refused-exactly, answers-least}
 
 -- the levels with those of a least choice written through the scan

@@ -18,7 +18,7 @@ use Rattle.prices.specs.Book.{Book}
 use Rattle.problem.specs.Tokens.{needsInfinite}
 use Rattle.weights.specs.Window.{windowOf}
 use Rattle.trellis.specs.Outcome.{refusal}
-use Rattle.trellis.specs.Rows.{problem}
+use Rattle.trellis_table.specs.Rows.{problem}
 
 -- of a block's levels, those in the window
 abbrev pub inWindow : Block → List ℤ → List ℤ

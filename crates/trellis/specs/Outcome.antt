@@ -16,7 +16,7 @@ use Rattle.block.specs.declared.Answer.the-variants.{Cost, Refused}
 use Rattle.least_cost.specs.Search.{leastTotal, leastCount, leastLevels}
 use Rattle.prices.specs.Book.{Book}
 use Rattle.scan.specs.Scan.{put}
-use Rattle.trellis.specs.Rows.{windowLength, problem}
+use Rattle.trellis_table.specs.Rows.{windowLength, problem}
 
 -- the least cost in the band and its count, or 15 where it is infinite
 unfoldable pub answered : Book → Block → Answer

@@ -1,7 +1,4 @@
 // The count-banded trellis: a least-cost choice of levels in the band.
-mod count;
-mod exchange;
-mod position;
 mod search;
 mod walk;
 
