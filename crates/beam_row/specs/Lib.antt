@@ -1,0 +1,3 @@
+-- One position of the beam: `Path` what a path is, `Step` how the paths behind a position become the paths from it on.
+pub mod Path
+pub mod Step
