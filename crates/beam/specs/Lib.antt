@@ -1,0 +1,2 @@
+-- The beam: `Beam` the search and its outcome.
+pub mod Beam
