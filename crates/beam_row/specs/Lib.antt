@@ -1,3 +1,4 @@
--- One position of the beam: `Path` what a path is, `Step` how the paths behind a position become the paths from it on.
+-- One position of the beam: `Path` what a path is, `Step` how the paths behind a position become the paths from it on, `Held` what the code holds of them.
 pub mod Path
 pub mod Step
+pub mod Held
