@@ -1,2 +1,3 @@
--- The beam: `Beam` the search and its outcome.
+-- The beam: `Beam` the search and its outcome, `Held` what the code holds of it.
 pub mod Beam
+pub mod Held
