@@ -4,4 +4,5 @@ pub mod Local
 pub mod Problem
 pub mod Tokens
 pub mod Input
+pub mod Written
 pub mod Main

@@ -1,5 +1,4 @@
 // The count-banded trellis: a least-cost choice of levels in the band.
-mod clear;
 mod count;
 mod exchange;
 mod position;
@@ -81,8 +80,8 @@ pub(crate) fn rdoq_block_banded(
         row_b,
     );
     let answer = search::write_found(scan, source, inv_qm, levels, plan, choices, found);
-    clear::clear_choices(choices);
-    clear::clear_row(row_a);
-    clear::clear_row(row_b);
+    rooms::clear_choices(choices);
+    rooms::clear_row(row_a);
+    rooms::clear_row(row_b);
     answer
 }

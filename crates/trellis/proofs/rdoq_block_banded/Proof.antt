@@ -11,8 +11,8 @@ use Rattle.block_checks.proofs.check_block.Reads as check-block-reads
 use Rattle.block_checks.proofs.trellis_room.Reads as trellis-room-reads
 use Rattle.book_checks.proofs.check_book.Reads as check-book-reads
 use Rattle.steps.proofs.reading.plan_of.Reads as plan-of-reads
-use Rattle.trellis.proofs.clear.clear_choices.Reads as clear-choices-reads
-use Rattle.trellis.proofs.clear.clear_row.Reads as clear-row-reads
+use Rattle.rooms.proofs.clear_choices.Reads as clear-choices-reads
+use Rattle.rooms.proofs.clear_row.Reads as clear-row-reads
 use Rattle.trellis.proofs.search.search.Reads as search-reads
 use Rattle.trellis.proofs.search.write_found.Reads as write-found-reads
 
