@@ -1,7 +1,8 @@
 -- What every path of the beam carries: its levels are a choice of the positions behind it, with its count and its cost, wherever that cost is finite. Assumes nothing.
 use mathlib.Core.Path.{_≡_, refl, sym, ap, ap₂, _∙_, subst, subst⁻¹}
+use mathlib.Core.Logic.{_⊎_, inl, inr}
 use mathlib.Core.Bool.{Bool, true, false, cond}
-use mathlib.Core.List.{List, [], _∷_, List·Memᴰ as Mem, List·Memᴰ·head as here, List·Memᴰ·tail as there, List·Memᴰ·eq-of-singleton as only, List·Memᴰ·not-nil as not-nil}
+use mathlib.Core.List.{List, [], _∷_, List·Memᴰ as Mem, List·Memᴰ·head as here, List·Memᴰ·tail as there, List·Memᴰ·cases-cons as cases-cons, List·Memᴰ·eq-of-singleton as only, List·Memᴰ·not-nil as not-nil}
 use Prim.Native.Nat.{ℕ, zero, suc, _+_, _≤_, _<_}
 use native.Mathlib.Omega.{arith}
 use native.Mathlib.Nat.{le-refl}
@@ -34,6 +35,17 @@ pub record AllPriced (t : Tail) (qs : List Position) : Type 0 where
 
 pub rest-priced : {t : Tail} {q : Position} {qs : List Position} → AllPriced t (q ∷ qs) → AllPriced t qs
 rest-priced Q = record { tails = Q .tails; each = λ x m. Q .each x (there m) }
+
+-- to show it, position by position
+pub none-priced : {t : Tail} → ((p : ℕ) → p ≤ 1 → T (cost (t .cost p))) → AllPriced t []
+none-priced h = record { tails = h; each = λ x m. absurd (not-nil m) }
+
+pub more-priced : {t : Tail} {q : Position} {qs : List Position} → Priced q → AllPriced t qs → AllPriced t (q ∷ qs)
+more-priced {t} {q} {qs} h Q = record { tails = Q .tails; each = λ x m. front x (cases-cons m) }
+  where
+    front : (x : Position) → (x ≡ q) ⊎ Mem x qs → Priced x
+    front x (inl e) = subst⁻¹ Priced e h
+    front x (inr m) = Q .each x m
 
 -- levels that are a choice of the positions, with this count and this cost
 pub record Stands (t : Tail) (qs : List Position) (p n : ℕ) (x : Float) (cs : List ℤ) : Type 0 where

@@ -1,3 +1,5 @@
 mod Members
 mod Carried
 mod Storing
+mod Taking
+mod Turns

@@ -38,7 +38,7 @@ use Rattle.weights.specs.Window.{windowOf, baseLen}
 use Rattle.weights.specs.declared.Window.{Window}
 use Rattle.beam.specs.Beam.{beamPaths, windowLength}
 use Rattle.beam.specs.Held.{tail, position, positions, paths, pathAt, Checked, Searched, Stored, ChosenAt, Stepped}
-use Rattle.beam.proofs.Carried.{Priced, AllPriced, Carried, carried}
+use Rattle.beam.proofs.Carried.{Priced, AllPriced, none-priced, more-priced, Carried, carried}
 
 base-small : (c : ℕ) → baseLen c ≤ 1024
 base-small c = omega arith
@@ -88,11 +88,98 @@ module _ {book : Book} {b : Block} {p : Plan} (K : Checked book b p) where
   unfolding tailOf
   tail-costs q Q = capped-cost binary32 _ 194 _ (tail-capped book (K .book-passed) (windowOf (covered b)) b P q)
 
-  each-priced : (n i : ℕ) → i + n ≤ windowLength b → (q : Position) → Mem q (positionsFrom halfWidth (windowOf (covered b)) book b i n) → Priced q
+  all-priced : (n i : ℕ) → i + n ≤ windowLength b → AllPriced (tail book b) (positionsFrom halfWidth (windowOf (covered b)) book b i n)
   unfolding positionsFrom
-  each-priced zero i h q m = absurd (none m)
-    where
-      none : {x : Position} → Mem x [] → ⊥
-      none ()
-  each-priced (suc n) i h q m = ?
+  all-priced zero i h = none-priced tail-costs
+  all-priced (suc n) i h = more-priced (local-cost i (omega arith)) (all-priced n (suc i) (omega arith))
 
+  -- ---- the paths from i on
+  pub carried-here : (i : ℕ) → i ≤ windowLength b → (x : Path) → Mem x (paths book b i) → Carried (tail book b) (positions book b i) x
+  carried-here i h x m = carried (tail book b) (positions book b i) (all-priced (windowLength b - i) i (omega arith)) x m
+
+  pub carried-at : (i j : ℕ) → i ≤ windowLength b → j < length (paths book b i) → Carried (tail book b) (positions book b i) (pathAt book b i j)
+  carried-at i j h k = carried-here i h _ (at-listed (paths book b i) noPath j k)
+
+  -- its count fits behind the position
+  pub count-fits : (i j : ℕ) → i ≤ windowLength b → j < length (paths book b i) → pathAt book b i j .remaining + (covered b + i) ≤ 64 * covered b
+  unfolding tailOf pastLength
+  count-fits i j h k =
+      let most = carried-at i j h k .most in
+      let long = positions-length halfWidth (windowOf (covered b)) book b i (windowLength b - i) in
+      omega (arith, most, long, past-most (windowOf (covered b)) b, P .window .fits)
+
+  module _ (i : ℕ) (h : i < windowLength b) where
+    positions-cons : positions book b i ≡ position book b i ∷ positions book b (suc i)
+    unfolding positionsFrom
+    positions-cons =
+        let one : windowLength b - i ≡ suc (windowLength b - suc i) = omega arith in
+        rw one
+
+    pub paths-step : paths book b i ≡ stepped (position book b i) (paths book b (suc i))
+    unfolding beamPaths
+    paths-step = ap (beamPaths (tail book b)) positions-cons
+
+    pub here-priced : Priced (position book b i)
+    here-priced = local-cost i h
+
+    module _ {spot : Spot} (S : Spotted b (p .log2) i spot) where
+      pub stands-here : Stands book spot (position book b i)
+      unfolding positionAt
+      stands-here =
+          record {
+            candidates-are = sym (S .listed-is);
+            price-is = λ r q c Q m. sym (ap (λ (x : Place). localAt book x r q c) (S .place-is) ∙ local-is book b (p .log2) i r q c Q);
+          }
+
+      module _ {s : Paths} (F : PathsFor (paths book b (suc i)) s) where
+        left : (j : ℕ) → j < s .count → suc (getD (s .remaining) j 0) + (covered b + i) ≤ 64 * covered b
+        left j k =
+            let l : j < length (paths book b (suc i)) = omega (arith, F .count-is) in
+            omega (arith, F .remaining-is j l, count-fits (suc i) j h l)
+
+        pub takeable : Usable (spot .candidates) → Takeable book spot s
+        unfolding placeOf
+        takeable U =
+            record {
+              priced = K .book-passed;
+              usable = U;
+              covers = rw (S .place-is, ← (K .planned .covered-is)) (K .planned .covers);
+              coded = rw (S .place-is) (omega arith);
+              offset = rw (S .place-is, ← (K .planned .offset-is)) (K .coded .offset);
+              few = F .few;
+              three = F .three;
+              six = F .six;
+              left = rw (S .place-is) left;
+            }
+
+        -- the step is taken, and its bytes stored
+        pub stepped-here : {r : Step} → Taken book spot s r → {at : ℕ} {before after : List ℕ} → at ≡ 6 * i → Stored at (r .choices) before after → Stepped book b i before after (r .paths)
+        stepped-here {r} t {at} {before} {after} e d =
+            let Q = stands-here in
+            record {
+              paths-are = rw paths-step (t .stands (position book b i) (paths book b (suc i)) Q F);
+              chosen = record { each = chosen };
+              size = d .size;
+              behind = λ j k. d .behind j (omega arith);
+            }
+          where
+            named : (j q : ℕ) → j < length (paths book b i) → q ≤ 1 → T (finite (pathAt book b i j .cost q))
+                → Named (position book b i) (paths book b (suc i)) q (getD (r .choices) (2 * j + q) 0) (pathAt book b i j)
+            named = rw paths-step (t .remembered (position book b i) (paths book b (suc i)) stands-here F .each)
+
+            few : length (paths book b i) ≤ 3
+            few = rw paths-step (omega (arith, t .stands (position book b i) (paths book b (suc i)) stands-here F .few, t .stands (position book b i) (paths book b (suc i)) stands-here F .count-is))
+
+            chosen : (j q : ℕ) → j < length (paths book b i) → q ≤ 1 → T (finite (pathAt book b i j .cost q))
+                → Named (position book b i) (paths book b (suc i)) q (getD after (6 * i + (2 * j + q)) 0) (pathAt book b i j)
+            chosen j q l Q f =
+                let same : getD after (6 * i + (2 * j + q)) 0 ≡ getD (r .choices) (2 * j + q) 0 = subst (λ (k : ℕ). getD after (k + (2 * j + q)) 0 ≡ getD (r .choices) (2 * j + q) 0) e (d .stored (2 * j + q) (omega (arith, few))) in
+                subst⁻¹ (λ (k : ℕ). Named (position book b i) (paths book b (suc i)) q k (pathAt book b i j)) same (named j q l Q f)
+
+-- ---- a block by what the code is handed of it
+module _ {book : Book} {scan : List ℕ} {source inverse : List Float} {levels : List ℤ} {plan : Plan} (w : Searched book scan source inverse levels plan) where
+  pub readable-now : (i : ℕ) → i < windowLength (w .block) → Readable scan source inverse levels (plan .scale) (plan .covered + i)
+  readable-now i h = let L = w .lists in rw (L .scan-is, L .source-is, L .inverse-is, L .levels-is) (readable-here (w .checked) i h)
+
+  pub spotted-now : {i : ℕ} {spot : Spot} → ((b : Block) → Lists b scan source inverse levels → Planned b plan → Spotted b (plan .log2) i spot) → Spotted (w .block) (plan .log2) i spot
+  spotted-now S = S (w .block) (w .lists) (w .checked .planned)
