@@ -3,3 +3,4 @@ mod Carried
 mod Storing
 mod Taking
 mod Turns
+mod Ends

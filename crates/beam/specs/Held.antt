@@ -77,6 +77,16 @@ pub record Reached (book : Book) (b : Block) (i : ℕ) (choices : List ℕ) (s :
   pub paths-are : PathsFor (paths book b i) s
   pub chosen : (j : ℕ) → i ≤ j → j < windowLength b → ChosenAt book b j choices
 
+-- paths whose counts have a price
+pub record Countable (book : Book) (plan : Plan) (s : Paths) : Type 0 where
+  pub priced : bookRefusal book ≡ 0
+  pub coded : Coded plan
+  pub covered : plan .covered ≤ 1024
+  pub few : s .count ≤ 3
+  pub three : length (s .remaining) ≡ 3
+  pub six : length (s .costs) ≡ 6
+  pub counts : (j : ℕ) → j < s .count → getD (s .remaining) j 0 ≤ 65536
+
 -- a cost that is below the least so far takes its place
 unfoldable pub considered : Best → Float → ℕ → Best
 considered best x j = cond (lt x (best .cost)) (record { cost = x; path = j }) best
