@@ -4,3 +4,4 @@ mod Storing
 mod Taking
 mod Turns
 mod Ends
+mod Walking

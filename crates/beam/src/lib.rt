@@ -2,3 +2,4 @@
 mod ending;
 mod positions;
 mod stub;
+mod walk;
