@@ -1,5 +1,6 @@
 mod Members
 mod Carried
+mod Priced
 mod Storing
 mod Taking
 mod Turns
