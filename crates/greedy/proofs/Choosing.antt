@@ -14,7 +14,7 @@ use lib.Ieee.{Float, inf, lt}
 use Rattle.block.specs.Band.{inputAfter, pastWindow}
 use Rattle.block.specs.Block.{Block, withLevels, covered, inputAt, inputRemaining, nonzerosAmong, ideal, candidatesAt}
 use Rattle.block.specs.Choice.{windowLevels, IsChoice}
-use Rattle.block.specs.Checks.{blockRefusal, searchRefusal}
+use Rattle.block.specs.Checks.{searchRefusal}
 use Rattle.block.specs.Cost.{firstPrev}
 use Rattle.block.specs.declared.Answer.the-variants.{Count}
 use Rattle.block_checks.specs.Passed.{Passed}
@@ -24,7 +24,7 @@ use Rattle.least_cost.specs.Choice.{remaining}
 use Rattle.least_cost.specs.Position.{nz}
 use Rattle.least_cost.specs.Search.{holder}
 use Rattle.prices.specs.Book.{Book}
-use Rattle.prices.specs.Checks.{bookRefusal}
+use Rattle.problem.proofs.Refusals.{searched}
 use Rattle.problem.proofs.Written.{is-choice}
 use Rattle.scan.specs.Scan.{Perm, levelAt}
 use Rattle.scan.proofs.Through.{level-same, level-other}
@@ -109,20 +109,12 @@ greedy-choice w v book b a =
     own i h = first-listed _ _ (candidates-listed (ideal b i) (inputAt b (covered b + i)) (ltb i (v .restoring)) (a .ideals i h) (a .current (covered b + i) (omega arith) (omega (arith, a .window .fits))))
 
 -- ---- the same of what the call leaves and answers, where it refuses nothing
-passes : (book : Book) (b : Block) → searchRefusal book b true ≡ 0 → blockRefusal (windowOf (covered b)) b 0 ≡ 0
-unfolding searchRefusal
-passes book b e = go (eqb (bookRefusal book) 0) refl e
-  where
-    go : (t : Bool) → eqb (bookRefusal book) 0 ≡ t → cond t (blockRefusal (windowOf (covered b)) b 0) (bookRefusal book) ≡ 0 → blockRefusal (windowOf (covered b)) b 0 ≡ 0
-    go true h k = k
-    go false h k = absurd (eqb-false (bookRefusal book) 0 h k)
-
 pub greedy-answers : (w : ℕ) (book : Book) (b : Block) → searchRefusal book b true ≡ 0
     → IsChoice w (windowOf (covered b)) book b (greedyOutcome book b .levels)
     × (greedyOutcome book b .answer ≡ Count (remaining (pastWindow (windowOf (covered b)) b) (windowLevels (windowOf (covered b)) b (greedyOutcome book b .levels))))
 unfolding greedyOutcome
 greedy-answers w book b e =
-    let choice = greedy-choice w (windowOf (covered b)) book b (passed b (passes book b e)) in
+    let choice = greedy-choice w (windowOf (covered b)) book b (passed b (searched book b true e .1 .0)) in
     rw (eq-eqb (searchRefusal book b true) 0 e) (choice, ap Count (sym (choice .count)))
 
 -- ---- `prev` of a run's first zero is 1 at the first position too: where no nonzero level stands behind the run, the whole count is 1
