@@ -24,10 +24,7 @@ use Rattle.weights.specs.Window.{windowOf}
 use Rattle.beam.specs.Beam.{beamPaths, pathTotal, pathsOf, beamCost, beamPath, windowLength, problem}
 use Rattle.beam.specs.Held.{tail, paths, considered, Ended}
 use Rattle.beam.specs.declared.ending.Best.{Best}
-
-pub bit-few : (t : Bool) → cond t 1 0 ≤ 1
-bit-few true = lit≤ tt
-bit-few false = lit≤ tt
+use Rattle.beam.proofs.Priced.{bit-few, all-paths}
 
 pub first-few : (n c : ℕ) {r : ℕ} → r ≡ cond (leb n (64 * c / 16)) 1 0 → r ≤ 1
 first-few n c e = rw e (bit-few (leb n (64 * c / 16)))
@@ -86,13 +83,6 @@ drop-all [] zero h = refl
 drop-all [] (suc j) h = refl
 drop-all (x ∷ xs) zero h = absurd (not-suc-le-zero h)
 drop-all (x ∷ xs) (suc j) h = drop-all xs j (le-of-suc-le-suc h)
-
--- the paths of the whole window
-pub all-paths : (book : Book) (b : Block) → paths book b 0 ≡ pathsOf (problem book b)
-unfolding problemOf
-all-paths book b =
-    let all : windowLength b - 0 ≡ windowLength b = omega arith in
-    ap (λ (n : ℕ). beamPaths (tail book b) (positionsFrom halfWidth (windowOf (covered b)) book b 0 n)) all
 
 pub sofar-end : (book : Book) (b : Block) {j : ℕ} {best : Best} → length (paths book b 0) ≤ j → Sofar (problem book b) (paths book b 0) j best → Ended book b best
 unfolding least holder beamCost beamPath

@@ -6,3 +6,5 @@ mod Taking
 mod Turns
 mod Ends
 mod Walking
+mod Starting
+mod Whole

@@ -38,19 +38,14 @@ use Rattle.weights.specs.Window.{windowOf, baseLen}
 use Rattle.weights.specs.declared.Window.{Window}
 use Rattle.beam.specs.Beam.{beamPaths, windowLength}
 use Rattle.beam.specs.Held.{tail, position, positions, paths, pathAt, Checked, Searched, Stored, ChosenAt, Stepped}
-use Rattle.beam.proofs.Carried.{Priced, AllPriced, none-priced, more-priced, Carried, carried}
+use Rattle.beam.proofs.Carried.{Priced, Carried}
+use Rattle.beam.proofs.Priced.{local-cost, carried-at, count-fits}
 
 base-small : (c : ℕ) → baseLen c ≤ 1024
 base-small c = omega arith
 
 inner : (c w i : ℕ) → i < w → c + w ≤ 64 * c → c + i < 64 * c
 inner c w i h f = omega arith
-
--- an element of a list stands in it
-pub at-listed : {A : Type 0} (xs : List A) (d : A) (j : ℕ) → j < length xs → Mem (getD xs j d) xs
-at-listed [] d j h = absurd (not-suc-le-zero h)
-at-listed (x ∷ xs) d zero h = here refl
-at-listed (x ∷ xs) d (suc j) h = there (at-listed xs d j (le-of-suc-le-suc h))
 
 -- the positions of a block, whatever is asked of them
 module _ {book : Book} {b : Block} {p : Plan} (K : Checked book b p) where
@@ -78,35 +73,11 @@ module _ {book : Book} {b : Block} {p : Plan} (K : Checked book b p) where
   pub level-current : (i : ℕ) → i < windowLength b → T (isCurrent (inputAt b (covered b + i)))
   level-current i h = P .current (covered b + i) (omega arith) (inner (covered b) (windowLength b) i h (P .window .fits))
 
-  local-cost : (i : ℕ) → i < windowLength b → Priced (position book b i)
-  unfolding positionAt
-  local-cost i h = record {
-    prices = λ r q c Q m. capped-cost binary32 1 194 _ (local-capped book (K .book-passed) (windowOf (covered b)) b P i h c (candidates-level book (K .book-passed) (windowOf (covered b)) b P i h c m) r q);
-  }
+  pub carried-of : (i j : ℕ) → i ≤ windowLength b → j < length (paths book b i) → Carried (tail book b) (positions book b i) (pathAt book b i j)
+  carried-of = carried-at book (K .book-passed) b P
 
-  pub tail-costs : (q : ℕ) → q ≤ 1 → T (cost (tail book b .cost q))
-  unfolding tailOf
-  tail-costs q Q = capped-cost binary32 _ 194 _ (tail-capped book (K .book-passed) (windowOf (covered b)) b P q)
-
-  all-priced : (n i : ℕ) → i + n ≤ windowLength b → AllPriced (tail book b) (positionsFrom halfWidth (windowOf (covered b)) book b i n)
-  unfolding positionsFrom
-  all-priced zero i h = none-priced tail-costs
-  all-priced (suc n) i h = more-priced (local-cost i (omega arith)) (all-priced n (suc i) (omega arith))
-
-  -- ---- the paths from i on
-  pub carried-here : (i : ℕ) → i ≤ windowLength b → (x : Path) → Mem x (paths book b i) → Carried (tail book b) (positions book b i) x
-  carried-here i h x m = carried (tail book b) (positions book b i) (all-priced (windowLength b - i) i (omega arith)) x m
-
-  pub carried-at : (i j : ℕ) → i ≤ windowLength b → j < length (paths book b i) → Carried (tail book b) (positions book b i) (pathAt book b i j)
-  carried-at i j h k = carried-here i h _ (at-listed (paths book b i) noPath j k)
-
-  -- its count fits behind the position
-  pub count-fits : (i j : ℕ) → i ≤ windowLength b → j < length (paths book b i) → pathAt book b i j .remaining + (covered b + i) ≤ 64 * covered b
-  unfolding tailOf pastLength
-  count-fits i j h k =
-      let most = carried-at i j h k .most in
-      let long = positions-length halfWidth (windowOf (covered b)) book b i (windowLength b - i) in
-      omega (arith, most, long, past-most (windowOf (covered b)) b, P .window .fits)
+  pub fits-of : (i j : ℕ) → i ≤ windowLength b → j < length (paths book b i) → pathAt book b i j .remaining + (covered b + i) ≤ 64 * covered b
+  fits-of = count-fits book (K .book-passed) b P
 
   module _ (i : ℕ) (h : i < windowLength b) where
     positions-cons : positions book b i ≡ position book b i ∷ positions book b (suc i)
@@ -120,7 +91,7 @@ module _ {book : Book} {b : Block} {p : Plan} (K : Checked book b p) where
     paths-step = ap (beamPaths (tail book b)) positions-cons
 
     pub here-priced : Priced (position book b i)
-    here-priced = local-cost i h
+    here-priced = local-cost book (K .book-passed) b P i h
 
     module _ {spot : Spot} (S : Spotted b (p .log2) i spot) where
       pub stands-here : Stands book spot (position book b i)
@@ -135,7 +106,7 @@ module _ {book : Book} {b : Block} {p : Plan} (K : Checked book b p) where
         left : (j : ℕ) → j < s .count → suc (getD (s .remaining) j 0) + (covered b + i) ≤ 64 * covered b
         left j k =
             let l : j < length (paths book b (suc i)) = omega (arith, F .count-is) in
-            omega (arith, F .remaining-is j l, count-fits (suc i) j h l)
+            omega (arith, F .remaining-is j l, fits-of (suc i) j h l)
 
         pub takeable : Usable (spot .candidates) → Takeable book spot s
         unfolding placeOf

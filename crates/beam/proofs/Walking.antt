@@ -35,8 +35,8 @@ use Rattle.weights.specs.Window.{windowOf}
 use Rattle.beam.specs.Beam.{windowLength}
 use Rattle.beam.specs.Held.{tail, position, positions, paths, pathAt, levelsOf, Walkable}
 use Rattle.beam.proofs.Carried.{Leads, way-rest, paths-few}
-use Rattle.beam.proofs.Ends.{bit-few}
-use Rattle.beam.proofs.Taking.{at-listed, passed-block, window-is, readable-here, here-priced, carried-at, level-current}
+use Rattle.beam.proofs.Priced.{at-listed, first-bit}
+use Rattle.beam.proofs.Taking.{passed-block, window-is, readable-here, here-priced, carried-of, level-current}
 
 -- ---- a list from i on
 from-here : (L : List ℤ) (i : ℕ) {c : ℤ} {cs : List ℤ} → drop i L ≡ c ∷ cs → (getD L i (pos 0) ≡ c) × (drop (suc i) L ≡ cs)
@@ -75,10 +75,6 @@ module _ {scan : List ℕ} {source inverse : List Float} {levels₀ : List ℤ} 
   pub covered-few : plan .covered ≤ 1024
   covered-few = omega (arith, w .checked .planned .covered-is, P .most)
 
-  first-bit : (n : ℕ) → firstPrev (w .block) n ≤ 1
-  unfolding firstPrev
-  first-bit n = bit-few (leb n (64 * covered (w .block) / 16))
-
   first-is : {prev : ℕ} → prev ≡ cond (leb count (64 * plan .covered / 16)) 1 0 → prev ≡ firstPrev (w .block) count
   unfolding firstPrev
   first-is e = rw (w .checked .planned .covered-is) at e
@@ -93,7 +89,7 @@ module _ {scan : List ℕ} {source inverse : List Float} {levels₀ : List ℤ} 
         rest = rw e;
         inside = w .inside;
         cheap = rw e (w .cheap);
-        bit = rw e (first-bit count);
+        bit = rw e (first-bit (w .block) count);
       }
 
   pub levels-length : {i : ℕ} {levels : List ℤ} {path prev : ℕ} → WalkedTo w i levels path prev → length levels ≡ length levels₀
@@ -133,7 +129,7 @@ module _ {scan : List ℕ} {source inverse : List Float} {levels₀ : List ℤ} 
 
     leads : Leads (tail (w .book) (w .block)) (position (w .book) (w .block) i) (positions (w .book) (w .block) (suc i)) (here-priced (w .checked) i h) way
     unfolding way wayOf
-    leads = record { path = carried-at (w .checked) (suc i) _ h (named .path); level = at-listed (position (w .book) (w .block) i .candidates) (pos 0) _ (named .level) }
+    leads = record { path = carried-of (w .checked) (suc i) _ h (named .path); level = at-listed (position (w .book) (w .block) i .candidates) (pos 0) _ (named .level) }
 
     way-cheap : T (finite (way .path .cost (nz (way .level))))
     unfolding way
