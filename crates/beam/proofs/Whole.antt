@@ -15,6 +15,7 @@ use Rattle.beam_row.specs.declared.Paths.{Paths}
 use Rattle.block.specs.Band.{problemOf}
 use Rattle.block.specs.Block.{Block, covered}
 use Rattle.block.specs.Cost.{firstPrev}
+use Rattle.block.specs.declared.Answer.{Answer}
 use Rattle.block.specs.declared.Answer.the-variants.{Cost, Refused}
 use Rattle.block_checks.proofs.Reading.{whole}
 use Rattle.costs.proofs.Order.{lt-inf}
@@ -61,8 +62,15 @@ module _ {book : Book} {scan : List ℕ} {source inverse : List Float} {levels :
             omega (arith, F .remaining-is j l, fits-of (w .checked) 0 j zero-le l, passed-block (w .checked) .most);
       }
 
-  pub done-of : {choices : List ℕ} {s : Paths} {best : Best} → Reached book (w .block) 0 choices s → Ended book (w .block) best → 6 * plan .window .length ≤ length choices → Done scan source inverse levels plan choices s best
-  done-of R E h = record { book = book; block = w .block; lists = w .lists; checked = w .checked; reached = R; ended = E; room = omega (arith, window-is (w .checked)) }
+  -- the search that is done is the block's
+  module _ {choices : List ℕ} {s : Paths} {best : Best} (R : Reached book (w .block) 0 choices s) (E : Ended book (w .block) best) (room : 6 * plan .window .length ≤ length choices) where
+    pub done-of : Done scan source inverse levels plan choices s best
+    done-of = record { book = book; block = w .block; lists = w .lists; checked = w .checked; reached = R; ended = E; room = omega (arith, window-is (w .checked)) }
+
+    pub done-answer : {answer : Answer} {after : List ℤ} → ((d : Done scan source inverse levels plan choices s best) → (answer ≡ answered (d .book) (d .block)) × (after ≡ written (d .book) (d .block)))
+        → (answer ≡ answered book (w .block)) × (after ≡ written book (w .block))
+    unfolding done-of
+    done-answer e = e done-of
 
 -- ---- what is written, and answered
 module _ {scan : List ℕ} {source inverse : List Float} {levels : List ℤ} {plan : Plan} {choices : List ℕ} {s : Paths} {best : Best} (d : Done scan source inverse levels plan choices s best) where

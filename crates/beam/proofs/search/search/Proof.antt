@@ -1,6 +1,6 @@
 use mathlib.Core.Path.{_≡_, refl, _∙_}
 use Prim.Native.Nat.{ℕ, _*_, _≤_}
-use Rattle.beam.proofs.Whole.{scan-long, scan-few, window-fits, whole-past, countable, done-of, longer}
+use Rattle.beam.proofs.Whole.{scan-long, scan-few, window-fits, whole-past, countable, done-of, done-answer, longer}
 use borrow.Author.Needs.{needs}
 use Rattle.beam.proofs.search.search.Statement.{statement}
 use Rattle.beam.proofs.search.search.Tie as tie
@@ -42,7 +42,7 @@ same-length-2 c = search needs
 returns : tie.Need-returns
 returns c =
     let taken = c .before .before .before .before .before .before .before .take-positions .ensures in
-    (taken .0, λ w. c .before .write-found .ensures (done-of w (taken .1 w) (c .before .before .before .before .best-path .ensures (w .block) (w .checked .planned) (taken .1 w .paths-are)) (longer (taken .0) (c .before .before .before .before .before .before .before .before .before .before .before .before .before .before .before .before .before .before .before .before .pre .1))))
+    (taken .0, λ w. done-answer w (taken .1 w) (c .before .before .before .before .best-path .ensures (w .block) (w .checked .planned) (taken .1 w .paths-are)) (longer (taken .0) (c .before .before .before .before .before .before .before .before .before .before .before .before .before .before .before .before .before .before .before .before .pre .1)) (c .before .write-found .ensures))
 
 pub search-spec : {M : Type 1} → statement M
 search-spec =
