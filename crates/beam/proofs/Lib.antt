@@ -1,10 +1,12 @@
+pub mod Carried
+pub mod Demand
+pub mod Priced
+mod Calling
+mod Ends
 mod Members
-mod Carried
-mod Priced
+mod Starting
 mod Storing
 mod Taking
 mod Turns
-mod Ends
 mod Walking
-mod Starting
 mod Whole

@@ -8,7 +8,7 @@ use native.Mathlib.Nat.{not-suc-le-zero, le-of-suc-le-suc}
 use lib.IntN.{ℤ}
 use lib.Dec.{T, leb, lit≤}
 use lib.ListN.{length, getD}
-use lib.Ieee.{Float, inf, binary32, add}
+use lib.Ieee.{Float, inf, binary32, add, le}
 use lib.Ieee.Scale.{finite}
 use Rattle.beam_row.specs.Held.{noPath}
 use Rattle.beam_row.specs.Path.{Path, noWay}
@@ -18,12 +18,13 @@ use Rattle.block.specs.Cost.{firstPrev, countCost}
 use Rattle.block_checks.specs.Passed.{Passed}
 use Rattle.costs.specs.Cost.{cost}
 use Rattle.costs.proofs.Bound.{capped-cost}
+use Rattle.costs.proofs.Order as Order
 use Rattle.costs.proofs.Sum.{add-cost, finite-terms}
 use Rattle.costs.proofs.View.{at-inf, viewed}
 use Rattle.least_cost.specs.Choice.{Choice, remaining, costOf}
 use Rattle.least_cost.specs.Position.{Position, Tail}
 use Rattle.least_cost.specs.Search.{Problem, countOf, wholeCost}
-use Rattle.least_cost.proofs.First.{Found, found-mem, finite-found, least-cost}
+use Rattle.least_cost.proofs.First.{Found, found-mem, finite-found, least-cost, least-le}
 use Rattle.prices.specs.Book.{Book}
 use Rattle.prices.specs.Checks.{bookRefusal}
 use Rattle.problem.proofs.Local.{candidates-level, local-capped, count-capped}
@@ -105,6 +106,16 @@ module _ (book : Book) (ok : bookRefusal book ≡ 0) (b : Block) (P : Passed (wi
   unfolding beamCost
   beam-cost = least-cost (pathTotal whole) (inf false) (pathsOf whole) (viewed at-inf) total-cost
 
+  -- no path costs less, and where the least is infinite, so is each
+  pub least-kept : (x : Path) → Mem x (pathsOf whole) → T (le (beamCost whole) (pathTotal whole x))
+  unfolding beamCost
+  least-kept x m = least-le (pathTotal whole) (inf false) (pathsOf whole) (viewed at-inf) total-cost x m
+
+  pub each-infinite : finite (beamCost whole) ≡ false → (x : Path) → Mem x (pathsOf whole) → pathTotal whole x ≡ inf false
+  each-infinite e x m =
+      let none = Order.infinite (beamCost whole) beam-cost (rw e tt) in
+      Order.inf-le (pathTotal whole x) (total-cost x m) (subst (λ (y : Float). T (le y (pathTotal whole x))) none (least-kept x m))
+
   -- ---- the cheapest path, where its cost is finite
   module _ (h : T (finite (beamCost whole))) where
     found : Found (pathTotal whole) (inf false) (pathsOf whole) (beamCost whole) (beamPath whole)
@@ -138,3 +149,13 @@ module _ (book : Book) (ok : bookRefusal book ≡ 0) (b : Block) (P : Passed (wi
         ap (λ (n : ℕ). add binary32 (costOf (tail book b) (positionsFrom halfWidth (windowOf (covered b)) book b 0 (windowLength b)) (firstPrev b n) (beamLevels whole)) (countCost book b n)) levels-count
         ∙ ap (λ (x : Float). add binary32 x (countCost book b (beamPath whole .remaining))) (stands .costs)
         ∙ sym (found .value)
+
+  -- where each path's cost is infinite, so is the least
+  pub least-infinite : ((x : Path) → Mem x (pathsOf whole) → pathTotal whole x ≡ inf false) → finite (beamCost whole) ≡ false
+  least-infinite f = go (finite (beamCost whole)) refl
+    where
+      go : (t : Bool) → finite (beamCost whole) ≡ t → finite (beamCost whole) ≡ false
+      go false e = e
+      go true e =
+          let h : T (finite (beamCost whole)) = rw e tt in
+          absurd (subst (λ (y : Float). T (finite y)) (found h .value ∙ f (beamPath whole) (listed h)) h)

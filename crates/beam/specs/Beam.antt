@@ -79,10 +79,13 @@ pub record Outcome : Type 0 where
 abbrev pub outcomeOf : Answer → List ℤ → List ℕ → Outcome
 outcomeOf answer levels choices = record { answer = answer; levels = levels; choices = choices }
 
+-- the first of checks 1 to 14 that refuses; 0 where none does
+unfoldable pub refusal : Book → Block → List ℕ → ℕ
+refusal book b choices = searchRefusal book b (beamRoom (windowLength b) (length choices))
+
 -- Refused by a check of 1 to 14, nothing changes; else all of the choices, surplus included, end as 255.
 unfoldable pub beamOutcome : Book → Block → List ℕ → Outcome
 beamOutcome book b choices =
-    let number = searchRefusal book b (beamRoom (windowLength b) (length choices)) in
-    cond (eqb number 0)
+    cond (eqb (refusal book b choices) 0)
     (outcomeOf (answered book b) (written book b) (replicate (length choices) 255))
-    (outcomeOf (Refused number) (b .levels) choices)
+    (outcomeOf (Refused (refusal book b choices)) (b .levels) choices)
