@@ -49,7 +49,8 @@ fn total_of(
 {
     let count = kept.remaining[j];
     let prev = tokens::first_prev(plan.covered, count);
-    kept.costs[2 * j + prev] + tokens::count_cost(clusters, map, configs, symbols, ready, plan, count)
+    kept.costs[2 * j + prev]
+        + tokens::count_cost(clusters, map, configs, symbols, ready, plan, count)
 }
 
 pub(crate) fn best_path(

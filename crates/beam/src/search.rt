@@ -120,16 +120,7 @@ pub(crate) fn search(
     ensures { λ r. ⌜ ((w : Searched (bookOf clusters (now (map .entry)) (now (configs .entry)) (now (symbols .entry)) (now (ready .entry))) (now (scan .entry)) (now (source .entry)) (now («inv_qm» .entry)) (now (levels .entry)) plan)
         → (r ≡ answered (bookOf clusters (now (map .entry)) (now (configs .entry)) (now (symbols .entry)) (now (ready .entry))) (w .block)) × (now (levels .exit) ≡ written (bookOf clusters (now (map .entry)) (now (configs .entry)) (now (symbols .entry)) (now (ready .entry))) (w .block))) ⌝ }
 {
-    let start = start_paths(
-        clusters,
-        map,
-        configs,
-        symbols,
-        ready,
-        plan,
-        scan,
-        levels,
-    );
+    let start = start_paths(clusters, map, configs, symbols, ready, plan, scan, levels);
     let kept = positions::take_positions(
         clusters,
         map,
