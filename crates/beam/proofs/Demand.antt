@@ -64,16 +64,16 @@ module _ (book : Book) (b : Block) (ok : bookRefusal book ≡ 0) (passes : block
 
   answered-kept : KeptAnswered book b (written book b) (answered book b)
   unfolding answered written
-  answered-kept x n e = go (finite (beamCost (problem book b))) refl e
+  answered-kept x n e = go (finite (beamCost (problem book b))) _ refl e
     where
-      go : (t : Bool) → finite (beamCost (problem book b)) ≡ t → cond t (Cost (beamCost (problem book b)) (beamCount (problem book b))) (Refused 16) ≡ Cost x n
-          → KeptCost book b (cond t (found-levels book b) (b .levels)) x n
-      go true h k =
+      go : (t : Bool) (after : List ℤ) → finite (beamCost (problem book b)) ≡ t → cond t (Cost (beamCost (problem book b)) (beamCount (problem book b))) (Refused 16) ≡ Cost x n
+          → KeptCost book b (cond t (found-levels book b) after) x n
+      go true after h k =
           let cost : beamCost (problem book b) ≡ x = cc in
           let count : beamCount (problem book b) ≡ n = cc in
           subst (λ (c : Float). KeptCost book b (found-levels book b) c n) cost
           (subst (KeptCost book b (found-levels book b) (beamCost (problem book b))) count (meets (rw h tt)))
-      go false h k =
+      go false after h k =
           let bad : _≡_ {A = ℕ} 0 1 = cc in
           absurd (omega arith)
 
@@ -94,7 +94,23 @@ module _ (book : Book) (b : Block) (ok : bookRefusal book ≡ 0) (passes : block
   refused-where f = rw (least-infinite book ok b (passed b passes) f)
 
 -- ---- the same of the whole outcome
+either-answer : (t : Bool) (x y : Answer) (k l : List ℤ) (m n : List ℕ) → cond t (outcomeOf x k m) (outcomeOf y l n) .answer ≡ cond t x y
+either-answer true x y k l m n = refl
+either-answer false x y k l m n = refl
+
+either-levels : (t : Bool) (x y : Answer) (k l : List ℤ) (m n : List ℕ) → cond t (outcomeOf x k m) (outcomeOf y l n) .levels ≡ cond t k l
+either-levels true x y k l m n = refl
+either-levels false x y k l m n = refl
+
 module _ (book : Book) (b : Block) (choices : List ℕ) where
+  answer-is : beamOutcome book b choices .answer ≡ cond (eqb (refusal book b choices) 0) (answered book b) (Refused (refusal book b choices))
+  unfolding beamOutcome
+  answer-is = either-answer (eqb (refusal book b choices) 0) _ _ _ _ _ _
+
+  levels-are : beamOutcome book b choices .levels ≡ cond (eqb (refusal book b choices) 0) (written book b) (b .levels)
+  unfolding beamOutcome
+  levels-are = either-levels (eqb (refusal book b choices) 0) _ _ _ _ _ _
+
   passed-all : refusal book b choices ≡ 0 → (bookRefusal book ≡ 0) × (blockRefusal (windowOf (covered b)) b 0 ≡ 0)
   unfolding refusal
   passed-all e =
@@ -105,12 +121,10 @@ module _ (book : Book) (b : Block) (choices : List ℕ) where
   unfolding refusal
   refusal-few = search-few book b _
 
-  refused-16 : RefusedExactly book b choices (beamOutcome book b choices .answer)
-  unfolding beamOutcome
+  refused-16 : RefusedExactly book b choices (cond (eqb (refusal book b choices) 0) (answered book b) (Refused (refusal book b choices)))
   refused-16 = (λ e. only (eqb (refusal book b choices) 0) refl e, λ h. rw (eq-eqb (refusal book b choices) 0 (h .0)) (refused-where book b (passed-all (h .0) .0) (passed-all (h .0) .1) (h .1)))
     where
-      only : (t : Bool) → eqb (refusal book b choices) 0 ≡ t
-          → cond t (outcomeOf (answered book b) (written book b) (replicate (length choices) 255)) (outcomeOf (Refused (refusal book b choices)) (b .levels) choices) .answer ≡ Refused 16
+      only : (t : Bool) → eqb (refusal book b choices) 0 ≡ t → cond t (answered book b) (Refused (refusal book b choices)) ≡ Refused 16
           → (refusal book b choices ≡ 0) × ((x : Path) → Mem x (pathsOf (problem book b)) → pathTotal (problem book b) x ≡ inf false)
       only true h e =
           let z = eqb-true (refusal book b choices) 0 h in
@@ -119,13 +133,10 @@ module _ (book : Book) (b : Block) (choices : List ℕ) where
           let bad : refusal book b choices ≡ 16 = cc in
           absurd (omega (arith, refusal-few))
 
-  kept-answered : KeptAnswered book b (beamOutcome book b choices .levels) (beamOutcome book b choices .answer)
-  unfolding beamOutcome
+  kept-answered : KeptAnswered book b (cond (eqb (refusal book b choices) 0) (written book b) (b .levels)) (cond (eqb (refusal book b choices) 0) (answered book b) (Refused (refusal book b choices)))
   kept-answered x n e = go (eqb (refusal book b choices) 0) refl e
     where
-      go : (t : Bool) → eqb (refusal book b choices) 0 ≡ t
-          → cond t (outcomeOf (answered book b) (written book b) (replicate (length choices) 255)) (outcomeOf (Refused (refusal book b choices)) (b .levels) choices) .answer ≡ Cost x n
-          → KeptCost book b (cond t (outcomeOf (answered book b) (written book b) (replicate (length choices) 255)) (outcomeOf (Refused (refusal book b choices)) (b .levels) choices) .levels) x n
+      go : (t : Bool) → eqb (refusal book b choices) 0 ≡ t → cond t (answered book b) (Refused (refusal book b choices)) ≡ Cost x n → KeptCost book b (cond t (written book b) (b .levels)) x n
       go true h k =
           let z = eqb-true (refusal book b choices) 0 h in
           answered-kept book b (passed-all z .0) (passed-all z .1) x n k
@@ -133,26 +144,40 @@ module _ (book : Book) (b : Block) (choices : List ℕ) where
           let bad : _≡_ {A = ℕ} 0 1 = cc in
           absurd (omega arith)
 
-  refused-keeps : RefusedKeeps b (beamOutcome book b choices .levels) (beamOutcome book b choices .answer)
-  unfolding beamOutcome written answered
-  refused-keeps n e = go (eqb (refusal book b choices) 0) (finite (beamCost (problem book b))) e
+  -- after 16 too
+  answered-keeps : (n : ℕ) → answered book b ≡ Refused n → written book b ≡ b .levels
+  unfolding written answered
+  answered-keeps n e = go (finite (beamCost (problem book b))) e
     where
-      go : (t f : Bool)
-          → cond t (outcomeOf (cond f (Cost (beamCost (problem book b)) (beamCount (problem book b))) (Refused 16)) (cond f (found-levels book b) (b .levels)) (replicate (length choices) 255)) (outcomeOf (Refused (refusal book b choices)) (b .levels) choices) .answer ≡ Refused n
-          → cond t (outcomeOf (cond f (Cost (beamCost (problem book b)) (beamCount (problem book b))) (Refused 16)) (cond f (found-levels book b) (b .levels)) (replicate (length choices) 255)) (outcomeOf (Refused (refusal book b choices)) (b .levels) choices) .levels ≡ b .levels
-      go true true k =
+      go : (t : Bool) → cond t (Cost (beamCost (problem book b)) (beamCount (problem book b))) (Refused 16) ≡ Refused n → cond t (found-levels book b) (b .levels) ≡ b .levels
+      go true k =
           let bad : _≡_ {A = ℕ} 0 1 = cc in
           absurd (omega arith)
-      go true false k = refl
-      go false f k = refl
+      go false k = refl
+
+  refused-keeps : RefusedKeeps b (cond (eqb (refusal book b choices) 0) (written book b) (b .levels)) (cond (eqb (refusal book b choices) 0) (answered book b) (Refused (refusal book b choices)))
+  refused-keeps n e = go (eqb (refusal book b choices) 0) e
+    where
+      go : (t : Bool) → cond t (answered book b) (Refused (refusal book b choices)) ≡ Refused n → cond t (written book b) (b .levels) ≡ b .levels
+      go true k = answered-keeps n k
+      go false k = refl
 
 -- ---- whatever equals the outcome meets the whole contract
-pub demanded : (book : Book) (b : Block) (choices : List ℕ) {answer : Answer} {after : List ℤ} {bytes : List ℕ} → outcomeOf answer after bytes ≡ beamOutcome book b choices
-    → (outcomeOf answer after bytes ≡ beamOutcome book b choices) × (RefusedExactly book b choices answer × (KeptAnswered book b after answer × RefusedKeeps b after answer))
-demanded book b choices e = (
-  e,
-  (
-    subst⁻¹ (λ (r : Outcome). RefusedExactly book b choices (r .answer)) e (refused-16 book b choices),
-    (subst⁻¹ (λ (r : Outcome). KeptAnswered book b (r .levels) (r .answer)) e (kept-answered book b choices), subst⁻¹ (λ (r : Outcome). RefusedKeeps b (r .levels) (r .answer)) e (refused-keeps book b choices)),
-  ),
-)
+module _ (book : Book) (b : Block) (choices : List ℕ) {answer : Answer} {after : List ℤ} {bytes : List ℕ} (e : outcomeOf answer after bytes ≡ beamOutcome book b choices) where
+  answered-as : answer ≡ cond (eqb (refusal book b choices) 0) (answered book b) (Refused (refusal book b choices))
+  answered-as = ap (λ (r : Outcome). r .answer) e ∙ answer-is book b choices
+
+  left-as : after ≡ cond (eqb (refusal book b choices) 0) (written book b) (b .levels)
+  left-as = ap (λ (r : Outcome). r .levels) e ∙ levels-are book b choices
+
+  pub demanded : (outcomeOf answer after bytes ≡ beamOutcome book b choices) × (RefusedExactly book b choices answer × (KeptAnswered book b after answer × RefusedKeeps b after answer))
+  demanded = (
+    e,
+    (
+      subst⁻¹ (RefusedExactly book b choices) answered-as (refused-16 book b choices),
+      (
+        subst⁻¹ (λ (r : Answer). KeptAnswered book b after r) answered-as (subst⁻¹ (λ (l : List ℤ). KeptAnswered book b l (cond (eqb (refusal book b choices) 0) (answered book b) (Refused (refusal book b choices)))) left-as (kept-answered book b choices)),
+        subst⁻¹ (λ (r : Answer). RefusedKeeps b after r) answered-as (subst⁻¹ (λ (l : List ℤ). RefusedKeeps b l (cond (eqb (refusal book b choices) 0) (answered book b) (Refused (refusal book b choices)))) left-as (refused-keeps book b choices)),
+      ),
+    ),
+  )

@@ -41,7 +41,7 @@ element-copy-out-result c =
 count-cost-requires : tie.Need-count-cost-requires
 count-cost-requires c κs =
     let pre = c .before .before .before .before .before .before .before .pre in
-    (pre .0 .priced, (pre .0 .coded, pre .0 .counts _ (pre .1)))
+    (pre .0 .priced, (pre .0 .coded, omega (arith, pre .0 .counts _ (pre .1), pre .1, pre .0 .few)))
 
 returns : tie.Need-returns
 returns c = λ b xs w F. total-here _ b xs _ _ _ _ w F (c .before .before .before .before .before .before .before .before .pre .1) (c .before .before .first-prev .ensures) (c .count-cost .ensures b w)

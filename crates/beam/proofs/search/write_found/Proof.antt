@@ -34,7 +34,7 @@ cast-t21 : tie.Need-cast-t21
 cast-t21 c =
     let d = c .before .before .before .before .before .before .before .before .before .before .before .pre in
     let h = tested d (c .before .before .before .before .before .before .infinity .ensures) (c .before .before .before .before .if1 .taken) in
-    record { fits = omega (arith, count-few d h refl) }
+    record { fits = omega (arith, count-few d h refl, path-few d h, d .reached .paths-are .few) }
 
 same-length : tie.Need-same-length
 same-length c = search needs
