@@ -5,7 +5,6 @@ use mathlib.Core.List.{List}
 use Prim.Native.Nat.{ℕ, _*_, _≤_}
 use native.Mathlib.Omega.{arith}
 use borrow.Author.Tests.{eq-eqb, ne-eqb, leb-true}
-use lib.Dec.{leb}
 use lib.IntN.{ℤ}
 use lib.ListN.{length, replicate}
 use Rattle.block.specs.Block.{Block, covered}

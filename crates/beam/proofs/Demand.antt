@@ -1,14 +1,12 @@
 -- The outcome of the beam is what document 01 says of its answers. Assumes nothing.
 use mathlib.Core.Path.{_≡_, refl, sym, ap, _∙_, subst, subst⁻¹}
-use mathlib.Core.Logic.{_↔_}
 use mathlib.Core.Bool.{Bool, true, false, cond}
 use mathlib.Core.List.{List, List·Memᴰ as Mem}
 use Prim.Native.Nat.{ℕ, _≤_}
 use native.Mathlib.Omega.{arith}
-use borrow.Author.Tests.{eqb-true, eqb-false, eq-eqb}
+use borrow.Author.Tests.{eqb-true, eq-eqb}
 use lib.Dec.{T, eqb}
 use lib.IntN.{ℤ}
-use lib.ListN.{length, replicate}
 use lib.Ieee.{Float, inf}
 use lib.Ieee.Scale.{finite}
 use Rattle.beam_row.specs.Path.{Path}

@@ -1,28 +1,27 @@
 -- The last step: the first least over the paths that are left. Assumes nothing.
-use mathlib.Core.Path.{_≡_, refl, sym, ap, ap₂, _∙_, subst, subst⁻¹}
+use mathlib.Core.Path.{_≡_, refl, ap, ap₂, _∙_, subst, subst⁻¹}
 use mathlib.Core.Bool.{Bool, true, false, cond}
 use mathlib.Core.List.{List, [], _∷_}
 use Prim.Native.Nat.{ℕ, zero, suc, _+_, _-_, _*_, _/_, _≤_, _<_}
 use native.Mathlib.Omega.{arith}
 use native.Mathlib.Nat.{not-suc-le-zero, le-of-suc-le-suc}
 use native.Mathlib.Numerals.{add-one}
-use lib.Dec.{T, leb, lit≤}
+use lib.Dec.{T, leb}
 use lib.ListN.{length, getD, drop}
 use lib.Ieee.{Float, nan, inf, lt, add, binary32}
 use lib.Ieee.Scale.{finite}
 use Rattle.beam_row.specs.Held.{noPath, PathsFor}
 use Rattle.beam_row.specs.Path.{Path}
 use Rattle.beam_row.specs.declared.Paths.{Paths}
-use Rattle.block.specs.Band.{positionsFrom, tailOf, problemOf, halfWidth}
+use Rattle.block.specs.Band.{problemOf}
 use Rattle.block.specs.Block.{Block, covered}
 use Rattle.block.specs.Cost.{firstPrev, countCost}
 use Rattle.least_cost.specs.Search.{Problem, least, holder}
 use Rattle.prices.specs.Book.{Book}
 use Rattle.steps.specs.Plan.{Planned}
 use Rattle.steps.specs.declared.reading.Plan.{Plan}
-use Rattle.weights.specs.Window.{windowOf}
-use Rattle.beam.specs.Beam.{beamPaths, pathTotal, pathsOf, beamCost, beamPath, windowLength, problem}
-use Rattle.beam.specs.Held.{tail, paths, considered, Ended}
+use Rattle.beam.specs.Beam.{pathTotal, beamCost, beamPath, problem}
+use Rattle.beam.specs.Held.{paths, considered, Ended}
 use Rattle.beam.specs.declared.ending.Best.{Best}
 use Rattle.beam.proofs.Priced.{bit-few, all-paths}
 
@@ -54,7 +53,6 @@ past (x ∷ xs) zero h = absurd (not-suc-le-zero h)
 past (x ∷ xs) (suc j) h = past xs j (le-of-suc-le-suc h)
 
 pub sofar-start : (w : Problem) (xs : List Path) (x : Float) → x ≡ inf false → length xs ≤ 3 → Sofar w xs 0 (record { cost = x; path = 3 })
-unfolding finite
 sofar-start w xs x e h =
     record {
       cost-left = ap (λ (y : Float). least (pathTotal w) y xs) e;

@@ -1,6 +1,7 @@
 pub mod Carried
 pub mod Demand
 pub mod Priced
+pub mod Unbanded
 mod Calling
 mod Ends
 mod Members

@@ -1,17 +1,17 @@
 -- What a step leaves was there: each path that is kept was made, and each that was made comes from a path and a candidate. Assumes nothing.
-use mathlib.Core.Path.{_≡_, refl, sym, ap, _∙_, subst, subst⁻¹}
+use mathlib.Core.Path.{_≡_, refl, ap, _∙_, subst, subst⁻¹}
 use mathlib.Core.Logic.{_⊎_, inl, inr}
 use mathlib.Core.Bool.{Bool, true, false, cond}
 use mathlib.Core.List.{List, [], _∷_, _++_, List·Memᴰ as Mem, List·Memᴰ·head as here, List·Memᴰ·tail as there, List·Memᴰ·cases-cons as cases-cons, List·Memᴰ·append-cases as append-cases, List·Memᴰ·eq-of-singleton as only, List·Memᴰ·not-nil as not-nil}
-use Prim.Native.Nat.{ℕ, zero, suc, _+_, _≤_, _<_, zero-le}
+use Prim.Native.Nat.{ℕ, zero, suc, _+_, _≤_}
 use native.Mathlib.Omega.{arith}
 use borrow.Author.Tests.{eqb-true, leb-true}
-use lib.Dec.{T, eqb, leb}
+use lib.Dec.{eqb, leb}
 use lib.IntN.{ℤ, pos}
 use lib.ListN.{length, getD, take, length-take}
-use lib.Ieee.{Float, lt}
+use lib.Ieee.{lt}
 use Rattle.beam_row.specs.Path.{Path, Way, wayRemaining, wayCost, wayLevels, waysOf, ways}
-use Rattle.beam_row.specs.Step.{extended, has, naming, countsNamed, reaching, merged, mergedAt, key, insert, sorting, kept, stepped}
+use Rattle.beam_row.specs.Step.{extended, has, naming, countsNamed, reaching, merged, mergedAt, key, insert, sorting, kept}
 use Rattle.least_cost.specs.Position.{Position}
 
 -- ---- the paths that are kept

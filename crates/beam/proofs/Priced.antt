@@ -1,17 +1,16 @@
 -- The paths of a block that passes its checks, with a book that passes its own: what they carry, and what the cheapest of them is. Assumes nothing.
-use mathlib.Core.Path.{_≡_, refl, sym, ap, ap₂, _∙_, subst, subst⁻¹}
+use mathlib.Core.Path.{_≡_, refl, sym, ap, _∙_, subst, subst⁻¹}
 use mathlib.Core.Bool.{Bool, true, false, cond}
 use mathlib.Core.List.{List, [], _∷_, List·Memᴰ as Mem, List·Memᴰ·head as here, List·Memᴰ·tail as there}
 use Prim.Native.Nat.{ℕ, zero, suc, _+_, _-_, _*_, _/_, _≤_, _<_}
 use native.Mathlib.Omega.{arith}
 use native.Mathlib.Nat.{not-suc-le-zero, le-of-suc-le-suc}
-use lib.IntN.{ℤ}
 use lib.Dec.{T, leb, lit≤}
 use lib.ListN.{length, getD}
 use lib.Ieee.{Float, inf, binary32, add, le}
 use lib.Ieee.Scale.{finite}
 use Rattle.beam_row.specs.Held.{noPath}
-use Rattle.beam_row.specs.Path.{Path, noWay}
+use Rattle.beam_row.specs.Path.{Path}
 use Rattle.block.specs.Band.{positionAt, positionsFrom, tailOf, problemOf, halfWidth}
 use Rattle.block.specs.Block.{Block, covered}
 use Rattle.block.specs.Cost.{firstPrev, countCost}
@@ -22,7 +21,6 @@ use Rattle.costs.proofs.Order as Order
 use Rattle.costs.proofs.Sum.{add-cost, finite-terms}
 use Rattle.costs.proofs.View.{at-inf, viewed}
 use Rattle.least_cost.specs.Choice.{Choice, remaining, costOf}
-use Rattle.least_cost.specs.Position.{Position, Tail}
 use Rattle.least_cost.specs.Search.{Problem, countOf, wholeCost}
 use Rattle.least_cost.proofs.First.{Found, found-mem, finite-found, least-cost, least-le}
 use Rattle.prices.specs.Book.{Book}

@@ -1,5 +1,5 @@
 -- What follows the window, as the one path to start from. Assumes nothing.
-use mathlib.Core.Path.{_≡_, refl, sym, ap, _∙_, subst, subst⁻¹}
+use mathlib.Core.Path.{_≡_, refl, ap, _∙_}
 use mathlib.Core.Bool.{false}
 use mathlib.Core.List.{List, [], _∷_}
 use Prim.Native.Nat.{ℕ, zero, suc, _+_, _-_, _*_, _≤_, _<_}
@@ -10,18 +10,17 @@ use lib.IntN.{ℤ, pos}
 use lib.ListN.{length, getD}
 use lib.Ieee.{Float, nan, fin}
 use Rattle.beam_row.specs.Held.{PathsFor, noPath}
-use Rattle.beam_row.specs.Path.{Path}
 use Rattle.block.specs.Block.{Block, covered, nonzerosAmong, inputRemaining}
 use Rattle.block.specs.Band.{positionsFrom, tailOf, pastWindow}
 use Rattle.block.specs.Cost.{tokensFrom, tailCost}
-use Rattle.least_cost.specs.Position.{Position, Tail}
+use Rattle.least_cost.specs.Position.{Tail}
 use Rattle.prices.specs.Book.{Book}
 use Rattle.steps.specs.Plan.{Planned}
 use Rattle.steps.specs.declared.reading.Plan.{Plan}
 use Rattle.weights.specs.Window.{windowOf}
 use Rattle.weights.specs.declared.Window.{Window}
 use Rattle.beam.specs.Beam.{endPath, beamPaths, windowLength}
-use Rattle.beam.specs.Held.{tail, positions, paths}
+use Rattle.beam.specs.Held.{tail, paths}
 
 -- one path as numbers; what stands behind it is not read
 one-path : (t : Tail) (past m n : ℕ) (x y a b c d : Float) → past ≡ t .count → x ≡ t .cost 0 → y ≡ t .cost 1

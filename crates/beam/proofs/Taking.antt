@@ -1,35 +1,27 @@
 -- One position: from the paths behind it to its own. Assumes nothing.
-use mathlib.Core.Path.{_≡_, refl, sym, ap, _∙_, subst, subst⁻¹}
-use mathlib.Core.List.{List, [], _∷_, List·Memᴰ as Mem, List·Memᴰ·head as here, List·Memᴰ·tail as there}
-use Prim.Native.Nat.{ℕ, zero, suc, _+_, _-_, _*_, _≤_, _<_}
+use mathlib.Core.Path.{_≡_, sym, ap, _∙_, subst, subst⁻¹}
+use mathlib.Core.List.{List, _∷_}
+use Prim.Native.Nat.{ℕ, suc, _+_, _-_, _*_, _≤_, _<_}
 use native.Mathlib.Omega.{arith}
-use native.Mathlib.Nat.{not-suc-le-zero, le-of-suc-le-suc, le-trans}
 use lib.IntN.{ℤ}
 use lib.Dec.{T}
 use lib.ListN.{length, getD}
-use lib.Ieee.{Float, nan, binary32}
+use lib.Ieee.{Float}
 use lib.Ieee.Scale.{finite}
-use Rattle.beam_row.specs.Held.{noPath, PathsFor, Named, Remembered, Stands, Takeable, Taken}
-use Rattle.beam_row.specs.Path.{Path}
+use Rattle.beam_row.specs.Held.{PathsFor, Named, Stands, Takeable, Taken}
 use Rattle.beam_row.specs.Step.{stepped}
 use Rattle.beam_row.specs.declared.Paths.{Paths}
 use Rattle.beam_row.specs.declared.Step.{Step}
-use Rattle.block.specs.Block.{Block, covered, inputAt, candidatesAt}
-use Rattle.block.specs.Band.{positionAt, positionsFrom, tailOf, pastWindow, halfWidth}
-use Rattle.block.specs.Cost.{localCost}
+use Rattle.block.specs.Block.{Block, covered, inputAt}
+use Rattle.block.specs.Band.{positionAt, positionsFrom}
 use Rattle.block_checks.specs.Passed.{Passed}
 use Rattle.block_checks.proofs.Laws.{passed}
 use Rattle.block_checks.proofs.Reading.{readable, small-position}
 use Rattle.candidates.specs.Candidates.{isCurrent}
 use Rattle.costs.specs.Cost.{cost}
-use Rattle.costs.proofs.Bound.{capped-cost}
-use Rattle.least_cost.specs.Position.{Position, Tail}
 use Rattle.prices.specs.Book.{Book}
-use Rattle.problem.proofs.Local.{candidates-level, local-capped}
-use Rattle.problem.proofs.Problem.{tail-capped, past-most, positions-length}
-use Rattle.problem.specs.Tokens.{pastLength}
 use Rattle.steps.specs.Place.{placeOf, localAt}
-use Rattle.steps.specs.Plan.{Planned, Lists, Readable, Spotted, Usable, listed}
+use Rattle.steps.specs.Plan.{Planned, Lists, Readable, Spotted, Usable}
 use Rattle.steps.specs.declared.Place.{Place}
 use Rattle.steps.specs.declared.reading.Plan.{Plan}
 use Rattle.steps.specs.declared.reading.Spot.{Spot}
@@ -37,7 +29,7 @@ use Rattle.steps.proofs.Local.{local-is}
 use Rattle.weights.specs.Window.{windowOf, baseLen}
 use Rattle.weights.specs.declared.Window.{Window}
 use Rattle.beam.specs.Beam.{beamPaths, windowLength}
-use Rattle.beam.specs.Held.{tail, position, positions, paths, pathAt, Checked, Searched, Stored, ChosenAt, Stepped}
+use Rattle.beam.specs.Held.{tail, position, positions, paths, pathAt, Checked, Searched, Stored, Stepped}
 use Rattle.beam.proofs.Carried.{Priced, Carried}
 use Rattle.beam.proofs.Priced.{local-cost, carried-at, count-fits}
 

@@ -1,7 +1,7 @@
 -- The walk: what each position's choice names, and what is written. Assumes nothing.
 use mathlib.Core.Path.{_≡_, refl, sym, ap, ap₂, _∙_, subst, subst⁻¹}
 use mathlib.Core.Bool.{cond}
-use mathlib.Core.List.{List, [], _∷_, List·Memᴰ as Mem}
+use mathlib.Core.List.{List, [], _∷_}
 use Prim.Native.Nat.{ℕ, zero, suc, _+_, _*_, _/_, _%_, _≤_, _<_, zero-le}
 use native.Mathlib.Omega.{arith}
 use native.Mathlib.Nat.{le-refl, le-antisymm}
@@ -14,8 +14,8 @@ use lib.ListN.{length, getD, drop, set, length-take}
 use lib.Seq.{getD-take}
 use lib.Ieee.{Float}
 use lib.Ieee.Scale.{finite}
-use Rattle.beam_row.specs.Held.{noPath, wayOf, Named}
-use Rattle.beam_row.specs.Path.{Way, wayCost, wayLevels}
+use Rattle.beam_row.specs.Held.{wayOf, Named}
+use Rattle.beam_row.specs.Path.{Way, wayLevels}
 use Rattle.block.specs.Block.{Block, withLevels, covered, inputAt, ideal, candidatesAt}
 use Rattle.block.specs.Band.{positionAt}
 use Rattle.block.specs.Cost.{firstPrev}
@@ -23,7 +23,6 @@ use Rattle.block_checks.specs.Passed.{Passed}
 use Rattle.candidates.specs.Candidates.{candidatesOf}
 use Rattle.least_cost.specs.Position.{nz}
 use Rattle.least_cost.proofs.Trial.{nz-le}
-use Rattle.prices.specs.Book.{Book}
 use Rattle.scan.specs.Scan.{Perm, levelAt, put}
 use Rattle.scan.proofs.Through.{put-more, put-after, put-length}
 use Rattle.steps.proofs.Plans.{planned-lists}

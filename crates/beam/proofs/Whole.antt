@@ -1,6 +1,6 @@
 -- What the whole search hands to its steps, and what it writes and answers. Assumes nothing.
-use mathlib.Core.Path.{_≡_, refl, sym, ap, ap₂, _∙_, subst, subst⁻¹}
-use mathlib.Core.Bool.{Bool, true, false, cond}
+use mathlib.Core.Path.{_≡_, sym, ap, ap₂, _∙_}
+use mathlib.Core.Bool.{Bool, true, false}
 use mathlib.Core.List.{List}
 use Prim.Native.Nat.{ℕ, _+_, _*_, _≤_, _<_, zero-le}
 use native.Mathlib.Omega.{arith}
@@ -9,11 +9,11 @@ use lib.ListN.{length, getD}
 use lib.Dec.{T}
 use lib.Ieee.{Float, inf, lt}
 use lib.Ieee.Scale.{finite}
-use Rattle.beam_row.specs.Held.{PathsFor, noPath}
+use Rattle.beam_row.specs.Held.{PathsFor}
 use Rattle.beam_row.specs.Path.{Path}
 use Rattle.beam_row.specs.declared.Paths.{Paths}
 use Rattle.block.specs.Band.{problemOf}
-use Rattle.block.specs.Block.{Block, covered}
+use Rattle.block.specs.Block.{covered}
 use Rattle.block.specs.Cost.{firstPrev}
 use Rattle.block.specs.declared.Answer.{Answer}
 use Rattle.block.specs.declared.Answer.the-variants.{Cost, Refused}
@@ -21,10 +21,10 @@ use Rattle.block_checks.proofs.Reading.{whole}
 use Rattle.costs.proofs.Order.{lt-inf}
 use Rattle.prices.specs.Book.{Book}
 use Rattle.scan.specs.Scan.{put}
-use Rattle.steps.specs.Plan.{Lists, Whole}
+use Rattle.steps.specs.Plan.{Whole}
 use Rattle.steps.specs.declared.reading.Plan.{Plan}
-use Rattle.beam.specs.Beam.{beamCost, beamPath, beamCount, beamLevels, windowLength, problem, answered, written}
-use Rattle.beam.specs.Held.{paths, pathAt, levelsOf, Checked, Searched, Reached, Countable, Ended, Walkable, Done}
+use Rattle.beam.specs.Beam.{beamCost, beamCount, beamLevels, windowLength, problem, answered, written}
+use Rattle.beam.specs.Held.{paths, levelsOf, Searched, Reached, Countable, Ended, Walkable, Done}
 use Rattle.beam.specs.declared.ending.Best.{Best}
 use Rattle.beam.proofs.Priced.{beam-cost, path-finite}
 use Rattle.beam.proofs.Taking.{passed-block, window-is, fits-of}

@@ -5,7 +5,7 @@ use steps::tokens;
 ghost use mathlib.Core.Path.{_≡_};
 ghost use mathlib.Core.List.{List};
 ghost use Prim.Native.Nat.{_<_};
-ghost use lib.ListN.{length, getD};
+ghost use lib.ListN.{getD};
 ghost use Rattle.beam_row.specs.Held.{PathsFor, noPath};
 ghost use Rattle.beam_row.specs.Path.{Path};
 ghost use Rattle.block.specs.Block.{Block};

@@ -38,9 +38,9 @@ fn take_position(
     behind: Paths,
     choices: &mut [u8],
 ) -> Paths
+    requires { ⌜ Searched (bookOf clusters (now map) (now configs) (now symbols) (now ready)) (now scan) (now source) (now «inv_qm») (now levels) plan ⌝ }
     requires { ⌜ ((w : Searched (bookOf clusters (now map) (now configs) (now symbols) (now ready)) (now scan) (now source) (now «inv_qm») (now levels) plan)
         → (i < windowLength (w .block)) × PathsFor (paths (bookOf clusters (now map) (now configs) (now symbols) (now ready)) (w .block) (suc i)) behind) ⌝ }
-    requires { ⌜ Searched (bookOf clusters (now map) (now configs) (now symbols) (now ready)) (now scan) (now source) (now «inv_qm») (now levels) plan ⌝ }
     requires { ⌜ 6 * i + 6 ≤ length (now choices) ⌝ }
     ensures { λ r. ⌜ ((w : Searched (bookOf clusters (now (map .entry)) (now (configs .entry)) (now (symbols .entry)) (now (ready .entry))) (now (scan .entry)) (now (source .entry)) (now («inv_qm» .entry)) (now (levels .entry)) plan)
         → Stepped (bookOf clusters (now (map .entry)) (now (configs .entry)) (now (symbols .entry)) (now (ready .entry))) (w .block) i (now (choices .entry)) (now (choices .exit)) r) ⌝ }
@@ -66,9 +66,9 @@ pub(crate) fn take_positions(
     start: Paths,
     choices: &mut [u8],
 ) -> Paths
+    requires { ⌜ Searched (bookOf clusters (now map) (now configs) (now symbols) (now ready)) (now scan) (now source) (now «inv_qm») (now levels) plan ⌝ }
     requires { ⌜ ((w : Searched (bookOf clusters (now map) (now configs) (now symbols) (now ready)) (now scan) (now source) (now «inv_qm») (now levels) plan)
         → PathsFor (paths (bookOf clusters (now map) (now configs) (now symbols) (now ready)) (w .block) (windowLength (w .block))) start) ⌝ }
-    requires { ⌜ Searched (bookOf clusters (now map) (now configs) (now symbols) (now ready)) (now scan) (now source) (now «inv_qm») (now levels) plan ⌝ }
     requires { ⌜ 6 * plan .window .length ≤ length (now choices) ⌝ }
     ensures { λ r. ⌜ length (now (choices .exit)) ≡ length (now (choices .entry)) ⌝ }
     ensures { λ r. ⌜ ((w : Searched (bookOf clusters (now (map .entry)) (now (configs .entry)) (now (symbols .entry)) (now (ready .entry))) (now (scan .entry)) (now (source .entry)) (now («inv_qm» .entry)) (now (levels .entry)) plan)

@@ -1,5 +1,4 @@
-use mathlib.Core.Path.{_≡_, sym, _∙_}
-use native.Mathlib.Omega.{arith}
+use mathlib.Core.Path.{sym, _∙_}
 use Rattle.block_checks.proofs.Laws.{passed}
 use Rattle.steps.proofs.Plans.{planned-lists}
 use Rattle.beam.proofs.Calling.{room, room-is, untrue, unfalse, searched-of, own-answer, by-book, by-block, by-room, accepted}

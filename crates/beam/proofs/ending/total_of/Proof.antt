@@ -1,9 +1,6 @@
-use mathlib.Core.Path.{_≡_, refl}
-use Prim.Native.Nat.{ℕ, _+_, _*_, _/_, _≤_, _<_}
 use native.Mathlib.Omega.{arith}
 use lib.ListN.{getD}
 use Rattle.beam.proofs.Ends.{first-few, total-here}
-use borrow.Author.Needs.{needs}
 use Rattle.beam.proofs.ending.total_of.Statement.{statement}
 use Rattle.beam.proofs.ending.total_of.Tie as tie
 use Rattle.beam.proofs.ending.total_of.Reads as reads

@@ -1,4 +1,4 @@
-use Prim.Native.Nat.{ℕ, _+_, _-_, _≤_, _<_, zero-le}
+use Prim.Native.Nat.{_-_, _≤_, zero-le}
 use native.Mathlib.Omega.{arith}
 use Rattle.beam.proofs.Storing.{StoredTo, stored-none, stored-more, stored-all}
 use borrow.Author.Needs.{needs}

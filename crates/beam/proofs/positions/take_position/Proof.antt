@@ -1,5 +1,4 @@
-use mathlib.Core.Path.{_≡_, refl}
-use Prim.Native.Nat.{_+_, _*_, _≤_, _<_}
+use mathlib.Core.Path.{refl}
 use native.Mathlib.Omega.{arith}
 use Rattle.beam.proofs.Taking.{base-few, position-few, window-few, readable-now, spotted-now, takeable, stepped-here}
 use borrow.Author.Needs.{needs}
@@ -14,27 +13,27 @@ use Rattle.steps.proofs.reading.Plan.spot.Reads as spot-reads
 spot-requires : tie.Need-spot-requires
 spot-requires c κs =
     let pre = c .before .before .before .before .before .before .before .before .pre in
-    let w = pre .1 .0 in
-    let h = pre .0 w .0 in
+    let w = pre .0 in
+    let h = pre .1 .0 w .0 in
     (readable-now w _ h, (base-few (w .checked), position-few (w .checked) _ h))
 
 step-requires : tie.Need-step-requires
 step-requires c κs =
     let pre = c .before .before .before .before .before .before .before .before .before .pre in
-    let w = pre .1 .0 in
-    takeable (w .checked) _ (pre .0 w .0) (spotted-now w (c .spot .ensures .0)) (pre .0 w .1) (c .spot .ensures .1)
+    let w = pre .0 in
+    takeable (w .checked) _ (pre .1 .0 w .0) (spotted-now w (c .spot .ensures .0)) (pre .1 .0 w .1) (c .spot .ensures .1)
 
 mul-store : tie.Need-mul-store
 mul-store c =
     let pre = c .before .before .before .before .before .before .before .before .before .before .before .before .pre in
-    let w = pre .1 .0 in
-    record { fits = omega (arith, pre .0 w .0, window-few (w .checked)) }
+    let w = pre .0 in
+    record { fits = omega (arith, pre .1 .0 w .0, window-few (w .checked)) }
 
 store-requires : tie.Need-store-requires
 store-requires c κs =
     let pre = c .before .before .before .before .before .before .before .before .before .before .before .before .pre in
-    let w = pre .1 .0 in
-    (omega (arith, pre .0 w .0, window-few (w .checked)), pre .1 .1)
+    let w = pre .0 in
+    (omega (arith, pre .1 .0 w .0, window-few (w .checked)), pre .1 .1)
 
 same-length : tie.Need-same-length
 same-length c = search needs
@@ -43,7 +42,7 @@ returns : tie.Need-returns
 returns c =
     let pre = c .before .before .before .before .before .before .before .before .before .before .before .before .before .before .before .before .pre in
     λ w.
-    stepped-here (w .checked) _ (pre .0 w .0) (spotted-now w (c .before .before .before .before .before .before .before .spot .ensures .0)) (pre .0 w .1) (c .before .before .before .before .before .before .step .ensures) refl (c .before .before .before .store .ensures)
+    stepped-here (w .checked) _ (pre .1 .0 w .0) (spotted-now w (c .before .before .before .before .before .before .before .spot .ensures .0)) (pre .1 .0 w .1) (c .before .before .before .before .before .before .step .ensures) refl (c .before .before .before .store .ensures)
 
 pub take-position-spec : {M : Type 1} → statement M
 take-position-spec =

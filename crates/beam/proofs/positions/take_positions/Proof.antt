@@ -1,5 +1,5 @@
-use mathlib.Core.Path.{_≡_, refl, sym, ap, _∙_, subst}
-use Prim.Native.Nat.{ℕ, _+_, _-_, _*_, _≤_, _<_}
+use mathlib.Core.Path.{_≡_, refl, _∙_}
+use Prim.Native.Nat.{_-_, _≤_}
 use native.Mathlib.Omega.{arith}
 use native.Mathlib.Nat.{le-refl}
 use lib.ListN.{length}
@@ -24,7 +24,7 @@ abbrev μ-loop : tie.MeasureT-loop
 loop-holds : tie.Need-loop-holds Inv-loop μ-loop
 loop-holds c =
     let pre = c .before .before .before .before .before .before .before .before .before .pre in
-    (le-refl _, (refl, λ w. reached-start w (pre .0 w)))
+    (le-refl _, (refl, λ w. reached-start w (pre .1 .0 w)))
 
 sub-i : tie.Need-sub-i Inv-loop μ-loop
 sub-i c = search needs
@@ -34,7 +34,7 @@ take-position-requires c κs =
     let pre = c .before .before .before .before .before .before .before .before .before .before .before .before .pre in
     let inv = c .before .before .loop .inv in
     let some = c .before .loop-test .taken in
-    ((λ w. (in-window w some (inv .1 .1 w) (inv .0), behind-here w some (inv .1 .1 w))), (pre .1 .0, omega (arith, inv .0, inv .1 .0, pre .1 .1)))
+    (pre .0, ((λ w. (in-window w some (inv .1 .1 w) (inv .0), behind-here w some (inv .1 .1 w))), omega (arith, inv .0, inv .1 .0, pre .1 .1)))
 
 loop-less : tie.Need-loop-less Inv-loop μ-loop
 loop-less c = omega (arith, c .before .before .before .before .loop-test .taken)
@@ -44,7 +44,7 @@ loop-again c =
     let inv = c .before .before .before .before .before .loop .inv in
     let some = c .before .before .before .before .loop-test .taken in
     let step = c .before .before .take-position .ensures in
-    (omega (arith, inv .0), (step (c .before .before .before .before .before .before .before .before .before .before .before .before .before .before .before .pre .1 .0) .size ∙ inv .1 .0, λ w. reached-more w some (inv .1 .1 w) (step w)))
+    (omega (arith, inv .0), (step (c .before .before .before .before .before .before .before .before .before .before .before .before .before .before .before .pre .0) .size ∙ inv .1 .0, λ w. reached-more w some (inv .1 .1 w) (step w)))
 
 same-length : tie.Need-same-length Inv-loop μ-loop
 same-length c = c .before .loop .inv .1 .0

@@ -1,5 +1,3 @@
-use mathlib.Core.Path.{_≡_, refl, _∙_}
-use Prim.Native.Nat.{ℕ, _*_, _≤_}
 use Rattle.beam.proofs.Whole.{scan-long, scan-few, window-fits, whole-past, countable, done-of, done-answer, longer}
 use borrow.Author.Needs.{needs}
 use Rattle.beam.proofs.search.search.Statement.{statement}
@@ -19,7 +17,7 @@ start-paths-requires c κs =
 take-positions-requires : tie.Need-take-positions-requires
 take-positions-requires c κs =
     let pre = c .before .before .before .before .before .before .before .before .before .before .before .before .pre in
-    ((λ w. c .before .before .start-paths .ensures (w .block) (w .lists .scan-is) (w .lists .levels-is) (scan-long w) (w .checked .planned)), pre)
+    (pre .0, ((λ w. c .before .before .start-paths .ensures (w .block) (w .lists .scan-is) (w .lists .levels-is) (scan-long w) (w .checked .planned)), pre .1))
 
 best-path-requires : tie.Need-best-path-requires
 best-path-requires c κs =

@@ -1,4 +1,3 @@
-use borrow.Author.Needs.{needs}
 use Rattle.beam.proofs.stub.step.Statement.{statement}
 use Rattle.beam.proofs.stub.step.Tie as tie
 use Rattle.beam.proofs.stub.step.Reads as reads

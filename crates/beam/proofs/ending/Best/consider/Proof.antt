@@ -1,5 +1,4 @@
 use Rattle.beam.specs.Held.{considered}
-use borrow.Author.Needs.{needs}
 use Rattle.beam.proofs.ending.Best.consider.Statement.{statement}
 use Rattle.beam.proofs.ending.Best.consider.Tie as tie
 use Rattle.beam.proofs.ending.Best.consider.Reads as reads
