@@ -280,7 +280,7 @@ pub fn fill_row(
     ensures { λ s. ⌜ Elsewhere at (2 * (most + 1 - least)) (now (choices .entry)) (now (choices .exit)) ⌝ }
     ensures { λ s. ⌜ RowIs (bookOf clusters (now (map .entry)) (now (configs .entry)) (now (symbols .entry)) (now (ready .entry))) place (listed candidates) (now (next .entry)) span least at (2 * (most + 1 - least)) (now (current .exit)) (now (choices .exit)) ⌝ }
 {
-    let distortion = locals::distortions(place, candidates);
+    let distortion = steps::reading::distortions(place, candidates);
     let zero = chosen::zero_index(candidates);
     let mut cache = Cache {
         context: 14850,
