@@ -1,0 +1,4 @@
+pub mod Naming
+pub mod Reach
+pub mod Keeping
+pub mod Closing
