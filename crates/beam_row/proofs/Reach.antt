@@ -6,7 +6,9 @@ use Prim.Native.Nat.{ℕ, zero, suc, _+_, _*_, _/_, _%_, _≤_, _<_}
 use native.Mathlib.Omega.{arith}
 use lib.Dec.{T, eqb}
 use lib.IntN.{ℤ, pos, negsuc}
-use lib.ListN.{length, getD}
+use lib.ListN.{length, getD, take}
+use lib.Seq.{take-suc}
+use native.Mathlib.Numerals.{add-one}
 use lib.Ieee.{Float, inf, lt}
 use lib.Ieee.Scale.{finite}
 use borrow.Author.Tests.{eq-eqb, ne-eqb}
@@ -157,3 +159,22 @@ both-merged {q} {xs} {ws} {e} {n} r w =
       first-by = named-by first;
       second-by = named-by second;
     }
+
+-- ---- loops: over the candidates in front of one path, and over the paths
+pub ways-next : (ws : List Way) (x : Path) (cs : List ℤ) (i : ℕ) → i < length cs → (ws ++ waysOf x (take i cs)) ++ (record { path = x; level = getD cs i (pos 0) } ∷ []) ≡ ws ++ waysOf x (take (i + 1) cs)
+ways-next ws x cs i h =
+    append-assoc ws (waysOf x (take i cs)) (record { path = x; level = getD cs i (pos 0) } ∷ [])
+    ∙ ap (λ (us : List Way). ws ++ us) (sym (waysOf-more x (take i cs) (getD cs i (pos 0))) ∙ ap (waysOf x) (sym (take-suc cs i (pos 0) h)) ∙ ap (λ (k : ℕ). waysOf x (take k cs)) (sym (add-one i)))
+
+pub paths-next : (xs : List Path) (cs : List ℤ) (j : ℕ) → j < length xs → ways (take j xs) cs ++ waysOf (getD xs j noPath) cs ≡ ways (take (j + 1) xs) cs
+paths-next xs cs j h =
+    sym (ways-more (take j xs) (getD xs j noPath) cs) ∙ ap (λ (us : List Path). ways us cs) (sym (take-suc xs j noPath h)) ∙ ap (λ (k : ℕ). ways (take k xs) cs) (sym (add-one j))
+
+pub both-none : (q : Position) (xs : List Path) (n choice : ℕ) (x : Float) → x ≡ inf false → BothOf q xs (ways [] (q .candidates)) (record { remaining = n; first = record { cost = x; choice = choice }; second = record { cost = x; choice = choice } })
+both-none q xs n choice x e = rw (e, ways-none (q .candidates)) (record { first = best-none q xs n 0 choice; second = best-none q xs n 1 choice })
+
+pub both-start : {q : Position} {xs : List Path} {ws : List Way} {e : Entry} (x : Path) → BothOf q xs ws e → BothOf q xs (ws ++ waysOf x []) e
+both-start {q} {xs} {ws} {e} x w = rw (waysOf-none x, append-nil ws) w
+
+pub both-past : {q : Position} {xs : List Path} {ws : List Way} {e : Entry} (x : Path) → (x .remaining ≡ e .remaining → ⊥) → (suc (x .remaining) ≡ e .remaining → ⊥) → BothOf q xs ws e → BothOf q xs (ws ++ waysOf x (q .candidates)) e
+both-past {q} {xs} {ws} {e} x own next w = record { first = best-past x (q .candidates) own next (w .first); second = best-past x (q .candidates) own next (w .second) }

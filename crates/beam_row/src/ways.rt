@@ -70,7 +70,18 @@ fn try_way(
     }
 }
 
-// The candidates behind path j.
+// Whether a path leads to count n.
+fn leads(remaining: usize, n: usize) -> bool
+    requires { ⌜ remaining < 65536 ⌝ }
+    ensures { λ r. ⌜ (r ≡ false → ((remaining ≡ n → ⊥) × (suc remaining ≡ n → ⊥))) ⌝ }
+{
+    if remaining == n {
+        return true;
+    }
+    remaining + 1 == n
+}
+
+// The candidates in front of path j, where it leads to the entry's count.
 fn try_path(
     clusters: u32,
     map: &[u8],
@@ -92,6 +103,9 @@ fn try_path(
     ensures { λ r. ⌜ ((q : Position) (xs : List Path) (ws : List Way) → Stands (bookOf clusters (now (map .entry)) (now (configs .entry)) (now (symbols .entry)) (now (ready .entry))) spot q → PathsFor xs paths
         → BothOf q xs ws entry → BothOf q xs (ws ++ waysOf (getD xs j noPath) (q .candidates)) r) ⌝ }
 {
+    if !leads(paths.remaining[j], entry.remaining) {
+        return entry;
+    }
     let candidates = spot.candidates;
     let mut best = entry;
     let mut i = 0;
@@ -113,17 +127,6 @@ fn try_path(
         i += 1;
     }
     best
-}
-
-// Whether a path leads to count n.
-fn leads(remaining: usize, n: usize) -> bool
-    requires { ⌜ remaining < 65536 ⌝ }
-    ensures { λ r. ⌜ (r ≡ false → ((remaining ≡ n → ⊥) × (suc remaining ≡ n → ⊥))) ⌝ }
-{
-    if remaining == n {
-        return true;
-    }
-    remaining + 1 == n
 }
 
 // The path of count n: for either `prev` the first least of the ways that reach it.
@@ -157,21 +160,19 @@ pub(crate) fn merge_count(
     };
     let mut j = 0;
     while j < paths.count {
-        if leads(paths.remaining[j], n) {
-            entry = try_path(
-                clusters,
-                map,
-                configs,
-                symbols,
-                ready,
-                spot,
-                distortion,
-                context,
-                paths,
-                j,
-                entry,
-            );
-        }
+        entry = try_path(
+            clusters,
+            map,
+            configs,
+            symbols,
+            ready,
+            spot,
+            distortion,
+            context,
+            paths,
+            j,
+            entry,
+        );
         j += 1;
     }
     entry
