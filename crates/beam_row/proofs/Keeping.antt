@@ -6,13 +6,17 @@ use Prim.Native.Nat.{ℕ, zero, suc, _+_, _≤_, _<_}
 use native.Mathlib.Omega.{arith}
 use lib.Dec.{leb}
 use borrow.Author.Tests.{leb-false}
-use lib.ListN.{length, getD, take}
+use lib.ListN.{length, getD, take, length-take}
+use lib.Seq.{getD-take, take-all, take-suc}
+use native.Mathlib.Numerals.{add-one}
 use lib.Ieee.{Float, lt}
 use Rattle.least_cost.specs.Position.{Position}
 use Rattle.beam_row.specs.Path.{Path, Way}
 use Rattle.beam_row.specs.Step.{merged, mergedAt, key, insert, sorting, kept, extended}
-use Rattle.beam_row.specs.Held.{noPath}
-use Rattle.beam_row.specs.Entries.{taking, EntryIs, KeptIs}
+use Rattle.beam_row.specs.Held.{noPath, PathsFor}
+use Rattle.beam_row.specs.Entries.{named, taking, EntryIs, KeptIs}
+use Rattle.beam_row.specs.declared.Paths.{Paths}
+use Rattle.beam_row.specs.declared.counts.Counts.{Counts}
 use Rattle.beam_row.specs.declared.entry.Entry.{Entry}
 use Rattle.beam_row.specs.declared.kept.Kept.{Kept}
 use lib.IntN.{ℤ}
@@ -179,3 +183,46 @@ more-few n h = go (leb 3 n) refl
 
 pub next-is : {q : Position} {xs ys : List Path} {k : Kept} {n : ℕ} → KeptIs q xs ys k → n ≡ cond (leb 3 (k .count)) (k .count) (suc (k .count)) → n ≡ next ys
 next-is w e = rw (w .count-is) e
+
+-- ---- the loops: over the paths with a sole candidate, and over the counts
+pub extended-none : (q : Position) (c : ℤ) → extended q c [] ≡ []
+unfolding extended
+extended-none q c = refl
+
+pub extended-next : {q : Position} {xs : List Path} {paths : Paths} {k : Kept} {j : ℕ} (c : ℤ) → PathsFor xs paths → j < paths .count
+    → KeptIs q xs (extended q c (take j xs) ++ (taking q c (getD xs j noPath) ∷ [])) k → KeptIs q xs (extended q c (take (j + 1) xs)) k
+extended-next {q} {xs} {paths} {k} {j} c W J w =
+    let here : j < length xs = rw (W .count-is) J in
+    subst (λ (ys : List Path). KeptIs q xs ys k)
+    (sym (extended-more q c (take j xs) (getD xs j noPath)) ∙ ap (extended q c) (sym (take-suc xs j noPath here)) ∙ ap (λ (i : ℕ). extended q c (take i xs)) (sym (add-one j))) w
+
+pub extended-all : {q : Position} {xs : List Path} {paths : Paths} {k : Kept} {j : ℕ} (c : ℤ) → PathsFor xs paths → j ≡ paths .count
+    → KeptIs q xs (extended q c (take j xs)) k → KeptIs q xs (extended q c xs) k
+extended-all {q} {xs} {paths} {k} {j} c W last w = subst (λ (ys : List Path). KeptIs q xs (extended q c ys) k) (take-all j xs (omega (arith, W .count-is, last))) w
+
+pub so-far-start : (q : Position) (ws : List Way) (many : ℕ) → soFar many (mergedAt q ws []) ≡ []
+unfolding mergedAt
+so-far-start q ws many = so-far-none many
+
+names-length : (c : Counts) {ns : List ℕ} → named c ≡ ns → c .length ≤ length (c .counts) → length ns ≡ c .length
+names-length c names few = rw (sym names) (simp length-take (omega (arith, few)))
+
+module _ {q : Position} {xs : List Path} {k : Kept} (ws : List Way) (c : Counts) {ns : List ℕ} (names : named c ≡ ns) (few : c .length ≤ length (c .counts)) where
+  pub merged-next : {d : ℕ} → d < c .length
+      → KeptIs q xs (cond (leb (c .length) 3) (soFar (c .length) (mergedAt q ws (take d ns)) ++ (merged q ws (getD (c .counts) d 0) ∷ [])) (take 3 (insert (merged q ws (getD (c .counts) d 0)) (soFar (c .length) (mergedAt q ws (take d ns)))))) k
+      → KeptIs q xs (soFar (c .length) (mergedAt q ws (take (d + 1) ns))) k
+  merged-next {d} h w =
+      let here : d < length ns = rw (names-length c names few) h in
+      let entry : getD (c .counts) d 0 ≡ getD ns d 0 = sym (getD-take (c .length) (c .counts) d 0 h) ∙ ap (λ (l : List ℕ). getD l d 0) names in
+      subst (λ (ys : List Path). KeptIs q xs ys k)
+      (so-far-more (c .length) (mergedAt q ws (take d ns)) (merged q ws (getD (c .counts) d 0))
+      ∙ ap (soFar (c .length))
+      (sym (merged-more q ws (take d ns) (getD (c .counts) d 0))
+      ∙ ap (λ (n : ℕ). mergedAt q ws (take d ns ++ (n ∷ []))) entry
+      ∙ ap (mergedAt q ws) (sym (take-suc ns d 0 here))
+      ∙ ap (λ (i : ℕ). mergedAt q ws (take i ns)) (sym (add-one d)))) w
+
+  pub merged-all : {d : ℕ} → d ≡ c .length → KeptIs q xs (soFar (c .length) (mergedAt q ws (take d ns))) k → KeptIs q xs (kept (mergedAt q ws ns)) k
+  merged-all {d} last w =
+      subst (λ (ys : List Path). KeptIs q xs ys k)
+      (ap (λ (l : List ℕ). soFar (c .length) (mergedAt q ws l)) (take-all d ns (omega (arith, names-length c names few, last))) ∙ so-far-all (c .length) (mergedAt q ws ns) (merged-length q ws ns ∙ names-length c names few)) w

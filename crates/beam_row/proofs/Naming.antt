@@ -67,44 +67,6 @@ pub counts-none : (ns : List ℕ) → countsNamed ns [] ≡ ns
 unfolding countsNamed
 counts-none ns = refl
 
--- ---- no count above b
-pub record Upto (b : ℕ) (ns : List ℕ) : Type 0 where
-  pub at : (m : ℕ) → m < length ns → getD ns m 0 ≤ b
-
-pub upto-more : {b : ℕ} {ns : List ℕ} {n : ℕ} → Upto b ns → n ≤ b → Upto b (ns ++ (n ∷ []))
-upto-more {b} {ns} {n} u h = record { at = λ m r. go m (rw (length-append ns (n ∷ [])) at r) (eqb m (length ns)) refl }
-  where
-    go : (m : ℕ) → m < length ns + 1 → (t : Bool) → eqb m (length ns) ≡ t → getD (ns ++ (n ∷ [])) m 0 ≤ b
-    go m r true t = rw (getD-at ns n [] 0 m (sym (eqb-true m (length ns) t))) h
-    go m r false t =
-        let less : m < length ns = omega (arith, eqb-false m (length ns) t) in
-        rw (List·getD-append ns (n ∷ []) 0 m less) (u .at m less)
-
-upto-naming : {b : ℕ} {ns : List ℕ} {n : ℕ} → Upto b ns → n ≤ b → Upto b (naming ns n)
-unfolding naming
-upto-naming {b} {ns} {n} u h = go (has n ns)
-  where
-    go : (t : Bool) → Upto b (cond t ns (ns ++ (n ∷ [])))
-    go true = u
-    go false = upto-more u h
-
--- each path's count is below b
-pub record Below (b : ℕ) (xs : List Path) : Type 0 where
-  pub at : (d : Path) (j : ℕ) → j < length xs → getD xs j d .remaining < b
-
-pub below-rest : {b : ℕ} {x : Path} {xs : List Path} → Below b (x ∷ xs) → Below b xs
-below-rest w = record { at = λ d j h. w .at d (suc j) (omega arith) }
-
-pub counts-upto : (b : ℕ) (ns : List ℕ) (xs : List Path) → Below b xs → Upto b ns → Upto b (countsNamed ns xs)
-unfolding countsNamed
-counts-upto b ns [] w u = u
-counts-upto b ns (x ∷ xs) w u =
-    let h = w .at x 0 (omega arith) in
-    counts-upto b (naming (naming ns (x .remaining)) (suc (x .remaining))) xs (below-rest w) (upto-naming (upto-naming u (omega arith)) h)
-
-pub upto-none : (b : ℕ) → Upto b []
-upto-none b = record { at = λ m h. absurd (not-suc-le-zero h) }
-
 -- ---- the loop that looks for a count: it is not among the first i
 pub found : (n : ℕ) (ns : List ℕ) (i k : ℕ) → i < k → k ≤ length ns → getD ns i 0 ≡ n → has n (take k ns) ≡ true
 found n ns i k h few e = has-at n (take k ns) i (simp length-take (omega arith)) (getD-take k ns i 0 h ∙ e)

@@ -145,7 +145,7 @@ pub distortion-is : (s : Spot) {distortion : List Float} {i : ℕ} → Usable (s
 distortion-is s {distortion} {i} U D I = D .at i (rw (listed-length U) I) ∙ ap (distortionAt (s .place)) (sym (usable-listed U i I))
 
 -- ---- the loops
-candidates-length : {book : Book} {s : Spot} {q : Position} → Stands book s q → Usable (s .candidates) → length (q .candidates) ≡ s .candidates .count
+pub candidates-length : {book : Book} {s : Spot} {q : Position} → Stands book s q → Usable (s .candidates) → length (q .candidates) ≡ s .candidates .count
 candidates-length S U = ap length (S .candidates-are) ∙ listed-length U
 
 module _ {q : Position} {xs : List Path} {paths : Paths} {e : Entry} (W : PathsFor xs paths) where

@@ -37,6 +37,7 @@ fn key(entry: Entry) -> f32
 
 impl Kept {
     pub(crate) fn none() -> Kept
+        ensures { λ r. ⌜ r .count ≡ 0 ⌝ }
         ensures { λ r. ⌜ ((q : Position) (xs : List Path) → KeptIs q xs [] r) ⌝ }
     {
         let best = Best {

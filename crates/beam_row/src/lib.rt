@@ -8,6 +8,7 @@ use crate::kept::Kept;
 use steps::reading::Spot;
 ghost use mathlib.Core.Path.{_≡_};
 ghost use mathlib.Core.List.{List, []};
+ghost use Prim.Native.Nat.{_≤_};
 ghost use lib.IntN.{pos};
 ghost use lib.ListN.{length, getD};
 ghost use Rattle.least_cost.specs.Position.{Position};
@@ -42,6 +43,7 @@ fn extend(
 ) -> Kept
     requires { ⌜ Takeable (bookOf clusters (now map) (now configs) (now symbols) (now ready)) spot paths ⌝ }
     requires { ⌜ spot .candidates .count ≡ 1 ⌝ }
+    ensures { λ r. ⌜ r .count ≤ 3 ⌝ }
     ensures { λ r. ⌜ ((q : Position) (xs : List Path) → Stands (bookOf clusters (now (map .entry)) (now (configs .entry)) (now (symbols .entry)) (now (ready .entry))) spot q → PathsFor xs paths
         → KeptIs q xs (extended q (getD (q .candidates) 0 (pos 0)) xs) r) ⌝ }
 {
@@ -78,6 +80,7 @@ fn merge(
     paths: Paths,
 ) -> Kept
     requires { ⌜ Takeable (bookOf clusters (now map) (now configs) (now symbols) (now ready)) spot paths ⌝ }
+    ensures { λ r. ⌜ r .count ≤ 3 ⌝ }
     ensures { λ r. ⌜ ((q : Position) (xs : List Path) → Stands (bookOf clusters (now (map .entry)) (now (configs .entry)) (now (symbols .entry)) (now (ready .entry))) spot q → PathsFor xs paths
         → KeptIs q xs (cheapest (mergedAt q (waysBy xs (q .candidates)) (countsNamed [] xs))) r) ⌝ }
 {

@@ -8,7 +8,7 @@ infinity-requires : tie.Need-infinity-requires
 infinity-requires c κs = search needs
 
 returns : tie.Need-returns
-returns c = λ q xs. kept-none refl
+returns c = (refl, λ q xs. kept-none refl)
 
 pub none-spec : {M : Type 1} → statement M
 none-spec = tie.close (tie.spec infinity-requires returns)
