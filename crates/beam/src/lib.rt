@@ -2,7 +2,6 @@
 mod ending;
 mod positions;
 mod search;
-mod stub;
 mod walk;
 
 use bias::DequantBias;

@@ -1,5 +1,4 @@
 // The positions from the last to the first: the paths of each, and its six choice bytes.
-use crate::stub;
 use beam_row::Paths;
 use steps::reading::Plan;
 ghost use mathlib.Core.Path.{_≡_};
@@ -46,7 +45,7 @@ fn take_position(
         → Stepped (bookOf clusters (now (map .entry)) (now (configs .entry)) (now (symbols .entry)) (now (ready .entry))) (w .block) i (now (choices .entry)) (now (choices .exit)) r) ⌝ }
 {
     let spot = plan.spot(scan, source, inv_qm, levels, i);
-    let step = stub::step(clusters, map, configs, symbols, ready, spot, behind);
+    let step = beam_row::take_step(clusters, map, configs, symbols, ready, spot, behind);
     let bytes = step.choices;
     store(choices, BEAM_STRIDE * i, bytes);
     step.paths
