@@ -1,5 +1,5 @@
 -- The paths kept, as the step's arrays. Assumes nothing.
-use mathlib.Core.Path.{_≡_, refl, sym, _∙_, subst}
+use mathlib.Core.Path.{_≡_, refl}
 use mathlib.Core.List.{List, [], _∷_}
 use Prim.Native.Nat.{ℕ, zero, suc, _+_, _*_, _≤_, _<_}
 use native.Mathlib.Omega.{arith}
@@ -10,9 +10,8 @@ use lib.Ieee.Scale.{finite}
 use Rattle.least_cost.specs.Position.{Position}
 use Rattle.beam_row.specs.Path.{Path}
 use Rattle.beam_row.specs.Held.{noPath, PathsFor, Named, Remembered}
-use Rattle.beam_row.specs.Entries.{EntryIs, KeptIs}
+use Rattle.beam_row.specs.Entries.{KeptIs}
 use Rattle.beam_row.specs.declared.kept.Kept.{Kept}
-use Rattle.beam_row.specs.declared.Paths.{Paths}
 
 abbrev pub remainings : Kept → List ℕ
 remainings k = k .one .remaining ∷ k .two .remaining ∷ k .three .remaining ∷ []

@@ -1,6 +1,6 @@
 -- No count above a bound: a position adds one at most. Assumes nothing.
 use mathlib.Core.Path.{_≡_, refl, sym, ap, _∙_, subst, subst⁻¹}
-use mathlib.Core.Logic.{_⊎_, ⊎-elim, inl, inr}
+use mathlib.Core.Logic.{_⊎_, ⊎-elim}
 use mathlib.Core.Bool.{Bool, true, false, cond}
 use mathlib.Core.List.{List, [], _∷_, _++_, List·Memᴰ as Mem, List·Memᴰ·head as mem-head, List·Memᴰ·tail as mem-tail, List·Memᴰ·cases-cons as cases-cons, List·Memᴰ·append-cases as append-cases, List·Memᴰ·not-nil as not-nil}
 use Prim.Native.Nat.{ℕ, zero, suc, _+_, _*_, _≤_, _<_}
@@ -10,8 +10,8 @@ use lib.Dec.{leb, eqb}
 use lib.IntN.{ℤ, pos}
 use lib.ListN.{length, getD, take, length-take}
 use lib.Seq.{getD-take}
-use lib.Ieee.{Float, nan, lt}
-use Rattle.least_cost.specs.Position.{Position, nz}
+use lib.Ieee.{nan, lt}
+use Rattle.least_cost.specs.Position.{Position}
 use Rattle.least_cost.proofs.Trial.{nz-le}
 use Rattle.prices.specs.Book.{Book}
 use Rattle.steps.specs.Place.{localAt}
@@ -20,12 +20,14 @@ use Rattle.steps.specs.declared.reading.Spot.{Spot}
 use Rattle.beam_row.specs.Path.{Path, Way, wayRemaining, ways}
 use Rattle.beam_row.specs.Step.{has, naming, countsNamed, merged, mergedAt, key, insert, sorting, kept, extended, stepped}
 use Rattle.beam_row.specs.Held.{noPath, PathsFor, Stands, Takeable}
-use Rattle.beam_row.specs.Entries.{named, taking}
+use Rattle.beam_row.specs.Entries.{named}
 use Rattle.beam_row.specs.declared.Paths.{Paths}
 use Rattle.beam_row.specs.declared.counts.Counts.{Counts}
+use Rattle.beam_row.proofs.Naming.{counts-none, counts-cons}
+use Rattle.beam_row.proofs.Keeping.{extended-none, extended-cons}
 
 module _ {A : Type 0} where
-  mem-at : (l : List A) (i : ℕ) (d : A) → i < length l → Mem (getD l i d) l
+  pub mem-at : (l : List A) (i : ℕ) (d : A) → i < length l → Mem (getD l i d) l
   mem-at [] i d h = absurd (not-suc-le-zero h)
   mem-at (x ∷ l) zero d h = mem-head refl
   mem-at (x ∷ l) (suc i) d h = mem-tail (mem-at l i d (le-of-suc-le-suc h))
@@ -61,11 +63,11 @@ module _ {k b : ℕ} where
       go false = upto-more n u h
 
   counts-upto : (ns : List ℕ) (xs : List Path) → Under (suc k) b xs → Upto k b ns → Upto k b (countsNamed ns xs)
-  unfolding countsNamed
-  counts-upto ns [] w u = u
+  counts-upto ns [] w u = rw (counts-none ns) u
   counts-upto ns (x ∷ xs) w u =
       let h = w .at x (mem-head refl) in
-      counts-upto (naming (naming ns (x .remaining)) (suc (x .remaining))) xs (under-rest w) (upto-naming (suc (x .remaining)) (upto-naming (x .remaining) u (omega (arith, h))) (omega (arith, h)))
+      rw (counts-cons ns x xs)
+      (counts-upto (naming (naming ns (x .remaining)) (suc (x .remaining))) xs (under-rest w) (upto-naming (suc (x .remaining)) (upto-naming (x .remaining) u (omega (arith, h))) (omega (arith, h))))
 
   under-none : Under k b []
   under-none = record { at = λ x m. absurd (not-nil m) }
@@ -74,9 +76,9 @@ module _ {k b : ℕ} where
   under-more h w = record { at = λ y m. ⊎-elim (λ e. rw e h) (w .at y) (cases-cons m) }
 
   under-extended : (q : Position) (c : ℤ) (xs : List Path) → Under (suc k) b xs → Under k b (extended q c xs)
-  unfolding extended wayRemaining
-  under-extended q c [] w = under-none
-  under-extended q c (x ∷ xs) w = under-more (omega (arith, nz-le c, w .at x (mem-head refl))) (under-extended q c xs (under-rest w))
+  unfolding wayRemaining
+  under-extended q c [] w = rw (extended-none q c) under-none
+  under-extended q c (x ∷ xs) w = rw (extended-cons q c x xs) (under-more (omega (arith, nz-le c, w .at x (mem-head refl))) (under-extended q c xs (under-rest w)))
 
   under-merged : (q : Position) (ws : List Way) (ns : List ℕ) → Upto k b ns → Under k b (mergedAt q ws ns)
   unfolding mergedAt merged

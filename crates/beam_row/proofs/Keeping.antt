@@ -1,5 +1,5 @@
 -- The cheapest three, path after path. Assumes nothing.
-use mathlib.Core.Path.{_≡_, refl, sym, ap, _∙_, subst, subst⁻¹}
+use mathlib.Core.Path.{_≡_, refl, sym, ap, _∙_, subst}
 use mathlib.Core.Bool.{Bool, true, false, cond, _||_, true≢false}
 use mathlib.Core.List.{List, [], _∷_, _++_}
 use Prim.Native.Nat.{ℕ, zero, suc, _+_, _≤_, _<_}
@@ -32,10 +32,18 @@ unfolding mergedAt
 merged-length q ws [] = refl
 merged-length q ws (m ∷ ns) = ap suc (merged-length q ws ns)
 
-pub extended-more : (q : Position) (c : ℤ) (xs : List Path) (x : Path) → extended q c (xs ++ (x ∷ [])) ≡ extended q c xs ++ (taking q c x ∷ [])
+-- every path takes the sole candidate
+pub extended-none : (q : Position) (c : ℤ) → extended q c [] ≡ []
 unfolding extended
-extended-more q c [] x = refl
-extended-more q c (y ∷ xs) x = ap (λ (ys : List Path). taking q c y ∷ ys) (extended-more q c xs x)
+extended-none q c = refl
+
+pub extended-cons : (q : Position) (c : ℤ) (x : Path) (xs : List Path) → extended q c (x ∷ xs) ≡ taking q c x ∷ extended q c xs
+unfolding extended
+extended-cons q c x xs = refl
+
+extended-more : (q : Position) (c : ℤ) (xs : List Path) (x : Path) → extended q c (xs ++ (x ∷ [])) ≡ extended q c xs ++ (taking q c x ∷ [])
+extended-more q c [] x = rw (extended-cons q c x [], extended-none q c) refl
+extended-more q c (y ∷ xs) x = rw (extended-cons q c y (xs ++ (x ∷ [])), extended-cons q c y xs, extended-more q c xs x) refl
 
 sorting-more : (done ys : List Path) (y : Path) → sorting done (ys ++ (y ∷ [])) ≡ insert y (sorting done ys)
 unfolding sorting
@@ -185,10 +193,6 @@ pub next-is : {q : Position} {xs ys : List Path} {k : Kept} {n : ℕ} → KeptIs
 next-is w e = rw (w .count-is) e
 
 -- ---- the loops: over the paths with a sole candidate, and over the counts
-pub extended-none : (q : Position) (c : ℤ) → extended q c [] ≡ []
-unfolding extended
-extended-none q c = refl
-
 pub extended-next : {q : Position} {xs : List Path} {paths : Paths} {k : Kept} {j : ℕ} (c : ℤ) → PathsFor xs paths → j < paths .count
     → KeptIs q xs (extended q c (take j xs) ++ (taking q c (getD xs j noPath) ∷ [])) k → KeptIs q xs (extended q c (take (j + 1) xs)) k
 extended-next {q} {xs} {paths} {k} {j} c W J w =

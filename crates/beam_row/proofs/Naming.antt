@@ -1,16 +1,15 @@
 -- The counts that are named, one after the other. Assumes nothing.
 use mathlib.Core.Path.{_≡_, refl, sym, ap, _∙_}
-use mathlib.Core.Bool.{Bool, true, false, cond, _||_, true≢false}
+use mathlib.Core.Bool.{Bool, true, false, _||_}
 use mathlib.Core.List.{List, [], _∷_, _++_}
-use mathlib.Core.Logic.{_⊎_, inl, inr}
 use Prim.Native.Nat.{ℕ, zero, suc, _+_, _≤_, _<_}
 use native.Mathlib.Nat.{le-of-suc-le-suc, not-suc-le-zero}
 use native.Mathlib.Numerals.{add-one}
 use native.Mathlib.Omega.{arith}
 use lib.Dec.{eqb}
-use lib.ListN.{length, getD, take, set, length-append, length-take, List·getD-append}
-use lib.Seq.{getD-at, getD-take, take-all, take-suc, take-suc-set}
-use borrow.Author.Tests.{eq-eqb, ne-eqb, eqb-true, eqb-false}
+use lib.ListN.{length, getD, take, set, length-take}
+use lib.Seq.{getD-take, take-all, take-suc, take-suc-set}
+use borrow.Author.Tests.{eq-eqb, ne-eqb}
 use Rattle.beam_row.specs.Path.{Path}
 use Rattle.beam_row.specs.Step.{has, naming, countsNamed}
 use Rattle.beam_row.specs.Held.{noPath, PathsFor}
@@ -58,14 +57,19 @@ pub named-new : (ns : List ℕ) (n k : ℕ) → k < length ns → has n (take k 
 unfolding naming
 named-new ns n k room h = rw h (ap (λ (m : ℕ). take m (set ns k n)) (add-one k) ∙ take-suc-set ns k n room)
 
-pub counts-more : (ns : List ℕ) (xs : List Path) (x : Path) → countsNamed ns (xs ++ (x ∷ [])) ≡ naming (naming (countsNamed ns xs) (x .remaining)) (suc (x .remaining))
+pub counts-cons : (ns : List ℕ) (x : Path) (xs : List Path) → countsNamed ns (x ∷ xs) ≡ countsNamed (naming (naming ns (x .remaining)) (suc (x .remaining))) xs
 unfolding countsNamed
-counts-more ns [] x = refl
-counts-more ns (y ∷ xs) x = counts-more (naming (naming ns (y .remaining)) (suc (y .remaining))) xs x
+counts-cons ns x xs = refl
 
 pub counts-none : (ns : List ℕ) → countsNamed ns [] ≡ ns
 unfolding countsNamed
 counts-none ns = refl
+
+pub counts-more : (ns : List ℕ) (xs : List Path) (x : Path) → countsNamed ns (xs ++ (x ∷ [])) ≡ naming (naming (countsNamed ns xs) (x .remaining)) (suc (x .remaining))
+counts-more ns [] x = counts-cons ns x [] ∙ counts-none (naming (naming ns (x .remaining)) (suc (x .remaining))) ∙ ap (λ (ms : List ℕ). naming (naming ms (x .remaining)) (suc (x .remaining))) (sym (counts-none ns))
+counts-more ns (y ∷ xs) x =
+    let next = naming (naming ns (y .remaining)) (suc (y .remaining)) in
+    counts-cons ns y (xs ++ (x ∷ [])) ∙ counts-more next xs x ∙ ap (λ (ms : List ℕ). naming (naming ms (x .remaining)) (suc (x .remaining))) (sym (counts-cons ns y xs))
 
 -- ---- the loop that looks for a count: it is not among the first i
 pub found : (n : ℕ) (ns : List ℕ) (i k : ℕ) → i < k → k ≤ length ns → getD ns i 0 ≡ n → has n (take k ns) ≡ true

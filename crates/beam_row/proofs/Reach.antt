@@ -2,17 +2,17 @@
 use mathlib.Core.Path.{_≡_, refl, sym, ap, _∙_, subst, subst⁻¹}
 use mathlib.Core.Bool.{Bool, true, false, cond}
 use mathlib.Core.List.{List, [], _∷_, _++_, append-nil, append-assoc}
-use Prim.Native.Nat.{ℕ, zero, suc, _+_, _*_, _/_, _%_, _≤_, _<_}
+use Prim.Native.Nat.{ℕ, suc, _+_, _*_, _/_, _%_, _<_}
 use native.Mathlib.Omega.{arith}
 use lib.Dec.{T, eqb}
-use lib.IntN.{ℤ, pos, negsuc}
+use lib.IntN.{ℤ, pos}
 use lib.ListN.{length, getD, take}
 use lib.Seq.{take-suc}
 use native.Mathlib.Numerals.{add-one}
 use lib.Ieee.{Float, inf, lt}
 use lib.Ieee.Scale.{finite}
 use borrow.Author.Tests.{eq-eqb, ne-eqb}
-use Rattle.least_cost.specs.Position.{Position, nz}
+use Rattle.least_cost.specs.Position.{Position}
 use Rattle.least_cost.specs.Search.{least, holder}
 use Rattle.least_cost.proofs.First.{least-append, holder-append}
 use Rattle.least_cost.proofs.Trial.{nz-le}

@@ -1,7 +1,6 @@
 -- The step, by the number of candidates. Assumes nothing.
-use mathlib.Core.Path.{_≡_, sym, ap, _∙_, subst⁻¹}
+use mathlib.Core.Path.{_≡_, sym, _∙_, subst⁻¹}
 use mathlib.Core.List.{List, []}
-use Prim.Native.Nat.{ℕ}
 use lib.IntN.{pos}
 use lib.ListN.{length, getD}
 use borrow.Author.Tests.{eq-eqb, ne-eqb}

@@ -1,15 +1,12 @@
 -- One way: what the code adds up is its cost, and the byte names it. Assumes nothing.
-use mathlib.Core.Path.{_≡_, refl, sym, ap, _∙_, subst, subst⁻¹}
-use mathlib.Core.List.{List, [], _∷_, _++_, List·Memᴰ, List·Memᴰ·head, List·Memᴰ·tail}
-use Prim.Native.Nat.{ℕ, zero, suc, _+_, _*_, _/_, _%_, _≤_, _<_}
-use native.Mathlib.Nat.{le-of-suc-le-suc, not-suc-le-zero}
+use mathlib.Core.Path.{_≡_, sym, ap, _∙_, subst}
+use mathlib.Core.List.{List, [], _∷_, _++_, List·Memᴰ}
+use Prim.Native.Nat.{ℕ, suc, _+_, _*_, _/_, _%_, _≤_, _<_}
 use native.Mathlib.Omega.{arith}
-use lib.Dec.{T}
 use lib.IntN.{ℤ, pos}
 use lib.ListN.{length, getD, take}
 use lib.Seq.{take-all}
 use lib.Ieee.{Float, nan, add, binary32}
-use lib.Ieee.Scale.{finite}
 use mir.Syntax.{w32}
 use mir.Val.{ofZ, toZ}
 use Rattle.ac_context.specs.Contexts.{Coefficient}
@@ -23,17 +20,13 @@ use Rattle.steps.specs.declared.reading.Spot.{Spot}
 use Rattle.steps.proofs.Listed.{listed-length, usable-listed}
 use Rattle.beam_row.specs.Path.{Path, Way, wayRemaining, wayCost, wayLevels, waysOf, ways}
 use Rattle.beam_row.specs.Step.{merged}
-use Rattle.beam_row.specs.Held.{noPath, wayOf, PathsFor, Stands, Takeable, Named}
-use Rattle.beam_row.specs.Entries.{considered, wayAt, taking, BestOf, BothOf, EntryIs}
+use Rattle.beam_row.specs.Held.{noPath, PathsFor, Stands, Takeable, Named}
+use Rattle.beam_row.specs.Entries.{considered, wayAt, taking, BothOf, EntryIs}
 use Rattle.beam_row.specs.declared.Paths.{Paths}
 use Rattle.beam_row.specs.declared.entry.Best.{Best}
 use Rattle.beam_row.specs.declared.entry.Entry.{Entry}
+use Rattle.beam_row.proofs.Growing.{mem-at}
 use Rattle.beam_row.proofs.Reach.{best-other, best-more, byte-way, both-past, both-merged, ways-next, paths-next}
-
-mem-at : (l : List ℤ) (i : ℕ) → i < length l → List·Memᴰ (getD l i (pos 0)) l
-mem-at [] i h = absurd (not-suc-le-zero h)
-mem-at (x ∷ l) zero h = List·Memᴰ·head refl
-mem-at (x ∷ l) (suc i) h = List·Memᴰ·tail (mem-at l i (le-of-suc-le-suc h))
 
 -- the level that the code reads
 abbrev pub read : Spot → ℕ → ℤ
@@ -56,7 +49,7 @@ module _ {book : Book} {s : Spot} {q : Position} {xs : List Path} {paths : Paths
   price-is : {x : Float} {context : ℕ} (n p : ℕ) → p ≤ 1 → context ≡ contextAt (s .place) n → x ≡ localIn book (s .place) context p (read s i) → x ≡ q .price n p (getD (q .candidates) i (pos 0))
   unfolding localAt
   price-is {x} {context} n p h e v =
-      let mem : List·Memᴰ (read s i) (listed (s .candidates)) = rw (usable-listed U i I) (mem-at (listed (s .candidates)) i (rw (listed-length U) I)) in
+      let mem : List·Memᴰ (read s i) (listed (s .candidates)) = rw (usable-listed U i I) (mem-at (listed (s .candidates)) i (pos 0) (rw (listed-length U) I)) in
       v ∙ ap (λ (k : ℕ). localIn book (s .place) k p (read s i)) e ∙ sym (S .price-is n p (read s i) h mem) ∙ ap (λ (c : ℤ). q .price n p c) level-is
 
   pub remaining-is : getD (paths .remaining) j 0 + m ≡ wayRemaining (wayAt q xs j i)

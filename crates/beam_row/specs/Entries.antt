@@ -1,11 +1,11 @@
 -- What the code holds while a position is taken: the counts named, one path with its choices, and the paths kept so far.
-use Prim.Native.Nat.{ℕ, suc, _+_, _*_, _/_, _%_, _≤_, _<_}
+use Prim.Native.Nat.{ℕ, _/_, _%_, _≤_, _<_}
 use mathlib.Core.Path.{_≡_}
-use mathlib.Core.Bool.{Bool, false, cond}
-use mathlib.Core.List.{List, [], _∷_}
+use mathlib.Core.Bool.{false, cond}
+use mathlib.Core.List.{List}
 use lib.IntN.{ℤ, pos}
 use lib.ListN.{length, getD, take}
-use lib.Dec.{T, leb}
+use lib.Dec.{T}
 use lib.Ieee.{Float, inf, lt}
 use lib.Ieee.Scale.{finite}
 use Rattle.least_cost.specs.Position.{Position}

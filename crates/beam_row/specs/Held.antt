@@ -5,7 +5,7 @@ use mathlib.Core.List.{List, List·Memᴰ}
 use lib.IntN.{ℤ, pos}
 use lib.ListN.{length, getD}
 use lib.Dec.{T}
-use lib.Ieee.{Float, nan}
+use lib.Ieee.{nan}
 use lib.Ieee.Scale.{finite}
 use Rattle.ac_context.specs.Contexts.{Covered}
 use Rattle.least_cost.specs.Position.{Position}
@@ -13,7 +13,6 @@ use Rattle.prices.specs.Book.{Book}
 use Rattle.prices.specs.Checks.{bookRefusal}
 use Rattle.steps.specs.Place.{localAt}
 use Rattle.steps.specs.Plan.{listed, Usable}
-use Rattle.steps.specs.declared.Place.{Place}
 use Rattle.steps.specs.declared.reading.Spot.{Spot}
 use Rattle.beam_row.specs.Path.{Path, Way, wayRemaining, wayCost, wayLevels, noWay}
 use Rattle.beam_row.specs.Step.{stepped}

@@ -2,7 +2,7 @@
 use crate::Paths;
 ghost use mathlib.Core.Path.{_≡_};
 ghost use mathlib.Core.List.{List, []};
-ghost use Prim.Native.Nat.{ℕ, _+_, _*_, _<_, _≤_};
+ghost use Prim.Native.Nat.{ℕ, _+_, _<_, _≤_};
 ghost use lib.ListN.{length, getD};
 ghost use Rattle.beam_row.specs.Path.{Path};
 ghost use Rattle.beam_row.specs.Step.{has, naming, countsNamed};

@@ -1,6 +1,5 @@
 // One path, with the choices that it came by.
 ghost use mathlib.Core.Path.{_≡_};
-ghost use lib.Ieee.{lt};
 ghost use Rattle.beam_row.specs.Entries.{considered};
 
 // A cost, and the way that has it: the path behind the position, times 16, and the index of the candidate.

@@ -1,15 +1,14 @@
-use Rattle.beam_row.specs.Path.{Path, Way, ways}
-use Rattle.beam_row.specs.Step.{extended, countsNamed, mergedAt}
-use Rattle.beam_row.specs.Held.{noPath, PathsFor, Stands}
+use Rattle.beam_row.specs.Path.{Path, ways}
+use Rattle.beam_row.specs.Step.{countsNamed, mergedAt}
+use Rattle.beam_row.specs.Held.{PathsFor, Stands}
 use Rattle.beam_row.specs.Entries.{KeptIs}
 use Rattle.least_cost.specs.Position.{Position}
 use Rattle.prices.specs.Book.{bookOf}
 use mathlib.Core.List.{List, []}
-use mathlib.Core.Path.{_≡_, refl, sym, _∙_, ap}
+use mathlib.Core.Path.{_≡_, _∙_, ap}
 use native.Mathlib.Omega.{arith}
-use lib.IntN.{pos}
-use lib.ListN.{length, getD, take}
-use Prim.Native.Nat.{ℕ, _+_, _-_, _≤_, _<_}
+use lib.ListN.{length, take}
+use Prim.Native.Nat.{ℕ, _+_, _-_, _≤_}
 use Rattle.beam_row.proofs.Keeping.{soFar, so-far-start, merged-next, merged-all}
 use Rattle.beam_row.proofs.Growing.{counts-coded}
 use Rattle.beam_row.proofs.Trying.{count-few}

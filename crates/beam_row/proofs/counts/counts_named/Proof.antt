@@ -4,10 +4,10 @@ use Rattle.beam_row.specs.Step.{countsNamed}
 use Rattle.beam_row.specs.Held.{PathsFor}
 use Rattle.beam_row.specs.Entries.{named}
 use mathlib.Core.List.{List, []}
-use mathlib.Core.Path.{_≡_, sym, _∙_, ap, refl}
+use mathlib.Core.Path.{_≡_, sym, refl}
 use native.Mathlib.Omega.{arith}
 use lib.ListN.{length, take}
-use Prim.Native.Nat.{ℕ, _≤_, _-_, _*_}
+use Prim.Native.Nat.{_≤_, _-_, _*_}
 use borrow.Author.Needs.{needs}
 use Rattle.beam_row.proofs.counts.counts_named.Statement.{statement}
 use Rattle.beam_row.proofs.counts.counts_named.Tie as tie

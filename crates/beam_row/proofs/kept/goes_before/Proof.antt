@@ -1,6 +1,4 @@
 use borrow.Author.Tests.{le-leb, lt-leb}
-use mathlib.Core.Path.{_≡_, ap, sym, _∙_}
-use lib.Ieee.{Float, lt}
 use borrow.Author.Needs.{needs}
 use Rattle.beam_row.proofs.kept.goes_before.Statement.{statement}
 use Rattle.beam_row.proofs.kept.goes_before.Tie as tie

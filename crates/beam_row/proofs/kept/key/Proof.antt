@@ -1,5 +1,4 @@
 use Rattle.beam_row.proofs.Keeping.{key-second, key-first}
-use borrow.Author.Needs.{needs}
 use Rattle.beam_row.proofs.kept.key.Statement.{statement}
 use Rattle.beam_row.proofs.kept.key.Tie as tie
 

@@ -1,7 +1,7 @@
 use Rattle.beam_row.proofs.Trying.{path-extended, sum-fits, sum-coded, pair-below}
 use mathlib.Core.Path.{sym, ap, _∙_}
 use native.Mathlib.Omega.{arith}
-use Prim.Native.Nat.{ℕ, _<_}
+use Prim.Native.Nat.{_<_}
 use Rattle.steps.proofs.Listed.{usable-level, usable-back}
 use Rattle.steps.specs.Place.{distortionAt}
 use borrow.Author.Needs.{needs}

@@ -1,4 +1,4 @@
-use mathlib.Core.Path.{sym, _∙_}
+use mathlib.Core.Path.{_∙_}
 use mathlib.Core.Bool.{true≢false}
 use native.Mathlib.Numerals.{add-one}
 use borrow.Author.Tests.{eqb-false}

@@ -1,13 +1,13 @@
-use Rattle.beam_row.specs.Path.{Path, Way, waysOf, ways}
-use Rattle.beam_row.specs.Held.{noPath, PathsFor, Stands}
+use Rattle.beam_row.specs.Path.{Path, ways}
+use Rattle.beam_row.specs.Held.{PathsFor, Stands}
 use Rattle.beam_row.specs.Entries.{BothOf}
 use Rattle.least_cost.specs.Position.{Position}
 use Rattle.prices.specs.Book.{bookOf}
-use mathlib.Core.List.{List, _++_}
+use mathlib.Core.List.{List}
 use mathlib.Core.Path.{_≡_, refl, sym, _∙_, ap}
 use native.Mathlib.Omega.{arith}
-use lib.ListN.{length, getD, take}
-use Prim.Native.Nat.{ℕ, _+_, _-_, _≤_, _<_}
+use lib.ListN.{take}
+use Prim.Native.Nat.{_-_, _≤_}
 use Rattle.beam_row.proofs.Trying.{paths-more, paths-all}
 use Rattle.beam_row.proofs.Reach.{both-none}
 use Rattle.steps.specs.Place.{contextAt}

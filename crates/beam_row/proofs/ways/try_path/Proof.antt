@@ -1,4 +1,4 @@
-use Rattle.beam_row.specs.Path.{Path, Way, waysOf, ways}
+use Rattle.beam_row.specs.Path.{Path, Way, waysOf}
 use Rattle.beam_row.specs.Held.{noPath, PathsFor, Stands}
 use Rattle.beam_row.specs.Entries.{BothOf}
 use Rattle.least_cost.specs.Position.{Position}
@@ -6,8 +6,8 @@ use Rattle.prices.specs.Book.{bookOf}
 use mathlib.Core.List.{List, _++_}
 use mathlib.Core.Path.{_≡_, refl, sym, _∙_, ap}
 use native.Mathlib.Omega.{arith}
-use lib.ListN.{length, getD, take}
-use Prim.Native.Nat.{ℕ, _+_, _-_, _≤_, _<_}
+use lib.ListN.{getD, take}
+use Prim.Native.Nat.{_+_, _-_, _≤_}
 use Rattle.beam_row.proofs.Trying.{count-few, path-past, candidates-more, candidates-all}
 use Rattle.beam_row.proofs.Reach.{both-start}
 use Rattle.steps.specs.Place.{contextAt}

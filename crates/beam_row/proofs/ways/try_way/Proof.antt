@@ -1,5 +1,5 @@
 use Rattle.beam_row.proofs.Trying.{way-other, way-more, sum-fits, pair-below, distortion-is}
-use mathlib.Core.Path.{refl, sym}
+use mathlib.Core.Path.{refl}
 use native.Mathlib.Omega.{arith}
 use Rattle.steps.proofs.Listed.{usable-level}
 use borrow.Author.Needs.{needs}

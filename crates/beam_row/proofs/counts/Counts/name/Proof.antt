@@ -2,7 +2,7 @@ use Rattle.beam_row.proofs.Naming.{named-old, named-new}
 use lib.ListN.{length, length-set}
 use mathlib.Core.Path.{sym, _∙_}
 use native.Mathlib.Omega.{arith}
-use Prim.Native.Nat.{ℕ, _<_}
+use Prim.Native.Nat.{_<_}
 use borrow.Author.Needs.{needs}
 use Rattle.beam_row.proofs.counts.Counts.name.Statement.{statement}
 use Rattle.beam_row.proofs.counts.Counts.name.Tie as tie

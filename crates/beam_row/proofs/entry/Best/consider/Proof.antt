@@ -1,5 +1,4 @@
 use Rattle.beam_row.specs.Entries.{considered}
-use borrow.Author.Needs.{needs}
 use Rattle.beam_row.proofs.entry.Best.consider.Statement.{statement}
 use Rattle.beam_row.proofs.entry.Best.consider.Tie as tie
 

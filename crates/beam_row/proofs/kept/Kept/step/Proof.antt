@@ -1,5 +1,4 @@
 use Rattle.beam_row.proofs.Closing.{paths-closed, bytes-closed}
-use borrow.Author.Needs.{needs}
 use Rattle.beam_row.proofs.kept.Kept.step.Statement.{statement}
 use Rattle.beam_row.proofs.kept.Kept.step.Tie as tie
 
