@@ -13,7 +13,7 @@ use Rattle.beam_row.specs.Path.{Path}
 use Rattle.block.specs.Band.{halfWidth, positionsFrom, pastWindow, tailOf, problemOf}
 use Rattle.block.specs.Block.{Block, withLevels, covered, inputRemaining}
 use Rattle.block.specs.Checks.{blockRefusal}
-use Rattle.block.specs.Choice.{IsChoice}
+use Rattle.block.specs.Choice.{IsChoice, inWindow}
 use Rattle.block.specs.declared.Answer.{Answer}
 use Rattle.block.specs.declared.Answer.the-variants.{Cost, Refused}
 use Rattle.block_checks.proofs.Laws.{passed}
@@ -26,7 +26,8 @@ use Rattle.problem.proofs.Written.{put-window, put-choice}
 use Rattle.scan.specs.Scan.{put}
 use Rattle.weights.specs.Window.{windowOf}
 use Rattle.beam.specs.Beam.{pathTotal, pathsOf, beamCost, beamCount, beamLevels, windowLength, problem, answered, written, refusal, Outcome, outcomeOf, beamOutcome}
-use Rattle.beam.specs.Demand.{inWindow, RefusedExactly, KeptCost, KeptAnswered, RefusedKeeps}
+use Rattle.block.specs.Outcome.{RefusedKeeps}
+use Rattle.beam.specs.Demand.{RefusedExactly, KeptCost, KeptAnswered}
 use Rattle.beam.proofs.Priced.{levels-choice, levels-count, levels-cost, least-kept, each-infinite, least-infinite}
 
 -- the levels with those of the path found written through the scan

@@ -11,17 +11,13 @@ use lib.Ieee.Scale.{finite}
 use Rattle.beam_row.specs.Path.{Path}
 use Rattle.block.specs.Band.{halfWidth}
 use Rattle.block.specs.Block.{Block, withLevels, covered, inputRemaining}
-use Rattle.block.specs.Choice.{windowLevels, IsChoice}
+use Rattle.block.specs.Choice.{IsChoice, inWindow}
 use Rattle.block.specs.declared.Answer.{Answer}
 use Rattle.block.specs.declared.Answer.the-variants.{Cost, Refused}
 use Rattle.least_cost.specs.Search.{wholeCost}
 use Rattle.prices.specs.Book.{Book}
 use Rattle.weights.specs.Window.{windowOf}
 use Rattle.beam.specs.Beam.{pathTotal, pathsOf, beamLevels, problem, refusal}
-
--- of a block's levels, those in the window
-abbrev pub inWindow : Block → List ℤ → List ℤ
-inWindow b levels = windowLevels (windowOf (covered b)) b levels
 
 -- Refused with 16 exactly when no check of 1 to 14 refuses and the kept paths all ended at an infinite cost.
 abbrev pub RefusedExactly : Book → Block → List ℕ → Answer → Type 0
@@ -43,7 +39,3 @@ pub record KeptCost (book : Book) (b : Block) (written : List ℤ) (cost : Float
 
 abbrev pub KeptAnswered : Book → Block → List ℤ → Answer → Type 0
 KeptAnswered book b written answer = (cost : Float) (count : ℕ) → answer ≡ Cost cost count → KeptCost book b written cost count
-
--- A refused block keeps every level.
-abbrev pub RefusedKeeps : Block → List ℤ → Answer → Type 0
-RefusedKeeps b after answer = (number : ℕ) → answer ≡ Refused number → after ≡ b .levels

@@ -12,7 +12,8 @@ ghost use mathlib.Core.Path.{_≡_};
 ghost use Rattle.block.specs.Block.{blockOf};
 ghost use Rattle.prices.specs.Book.{bookOf};
 ghost use Rattle.beam.specs.Beam.{beamOutcome, outcomeOf};
-ghost use Rattle.beam.specs.Demand.{RefusedExactly, KeptAnswered, RefusedKeeps};
+ghost use Rattle.block.specs.Outcome.{RefusedKeeps};
+ghost use Rattle.beam.specs.Demand.{RefusedExactly, KeptAnswered};
 
 // Writes the levels of the cheapest path that is left, and answers its cost and its count of nonzero levels from scan position c on; or
 // refuses with 16 where every path that is left has an infinite cost. Both ways the choice bytes end as 255. Refused by one of checks 1

@@ -7,11 +7,11 @@ use block::Shape;
 use weights::Settings;
 ghost use mathlib.Core.Path.{_≡_};
 ghost use Rattle.block.specs.Block.{blockOf};
-ghost use Rattle.block.specs.Outcome.{RefusedKeeps};
+ghost use Rattle.block.specs.Outcome.{RefusedKeeps, lentOf, resultOf};
 ghost use Rattle.greedy.specs.Greedy.{greedyOutcome, CountAnswered};
 ghost use Rattle.prices.specs.Book.{bookOf};
 ghost use Rattle.trellis.specs.Demand.{RefusedExactly, LeastAnswered};
-ghost use Rattle.trellis.specs.Outcome.{bandedOutcome, lentOf, resultOf};
+ghost use Rattle.trellis.specs.Outcome.{bandedOutcome};
 
 // One pass over the window that takes each position's cheapest candidate. Answers the count of nonzero levels from scan position c on, or refuses by one of
 // checks 1 to 13. Takes no room.

@@ -1,7 +1,7 @@
-use Rattle.trellis.specs.Rows.{leastCount}
+use Rattle.trellis_table.specs.Rows.{leastCount}
 use borrow.Author.Needs.{needs}
-use Rattle.trellis.proofs.position.least_count.Statement.{statement}
-use Rattle.trellis.proofs.position.least_count.Tie as tie
+use Rattle.trellis_table.proofs.position.least_count.Statement.{statement}
+use Rattle.trellis_table.proofs.position.least_count.Tie as tie
 
 less-requires : tie.Need-less-requires
 less-requires c κs = search needs

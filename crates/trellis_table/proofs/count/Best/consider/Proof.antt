@@ -1,7 +1,7 @@
-use Rattle.trellis.specs.Rows.{considered}
+use Rattle.trellis_table.specs.Rows.{considered}
 use borrow.Author.Needs.{needs}
-use Rattle.trellis.proofs.count.Best.consider.Statement.{statement}
-use Rattle.trellis.proofs.count.Best.consider.Tie as tie
+use Rattle.trellis_table.proofs.count.Best.consider.Statement.{statement}
+use Rattle.trellis_table.proofs.count.Best.consider.Tie as tie
 
 returns : tie.Need-returns
 unfolding considered

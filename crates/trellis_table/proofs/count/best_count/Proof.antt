@@ -1,5 +1,5 @@
-use Rattle.trellis.proofs.Totals.{Sofar, sofar-start, sofar-more, sofar-end, count-few, some-window, counts-some}
-use Rattle.trellis.specs.Rows.{problem}
+use Rattle.trellis_table.proofs.Totals.{Sofar, sofar-start, sofar-more, sofar-end, count-few, some-window, counts-some}
+use Rattle.trellis_table.specs.Rows.{problem}
 use Rattle.block.specs.Block.{blockOf}
 use Rattle.prices.specs.Book.{bookOf}
 use native.Mathlib.Nat.{le-refl}
@@ -7,8 +7,8 @@ use native.Mathlib.Omega.{arith}
 use Prim.Native.Nat.{ℕ, _+_, _-_, _≤_, _<_}
 use mathlib.Core.Path.{_≡_}
 use borrow.Author.Needs.{needs}
-use Rattle.trellis.proofs.count.best_count.Statement.{statement}
-use Rattle.trellis.proofs.count.best_count.Tie as tie
+use Rattle.trellis_table.proofs.count.best_count.Statement.{statement}
+use Rattle.trellis_table.proofs.count.best_count.Tie as tie
 
 abbrev Inv-loop : tie.InvT-loop
 Inv-loop clusters map configs symbols ready shape settings bias scale scan source inv-qm levels plan live counts most best₀ n₀ best n =

@@ -1,11 +1,11 @@
-use Rattle.trellis.proofs.Totals.{covered-few, count-few, total-is, bit-few}
+use Rattle.trellis_table.proofs.Totals.{covered-few, count-few, total-is, bit-few}
 use native.Mathlib.Omega.{arith}
 use Prim.Native.Nat.{ℕ, _≤_, _*_, _/_}
 use lib.Dec.{leb}
 use mathlib.Core.Path.{_≡_, ap}
 use borrow.Author.Needs.{needs}
-use Rattle.trellis.proofs.count.total_of.Statement.{statement}
-use Rattle.trellis.proofs.count.total_of.Tie as tie
+use Rattle.trellis_table.proofs.count.total_of.Statement.{statement}
+use Rattle.trellis_table.proofs.count.total_of.Tie as tie
 
 first-prev-requires : tie.Need-first-prev-requires
 first-prev-requires c κs = covered-few (c .before .before .before .before .before .before .before .before .pre .0)

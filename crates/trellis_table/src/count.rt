@@ -12,7 +12,7 @@ ghost use lib.ListN.{length};
 ghost use Rattle.block.specs.Block.{blockOf};
 ghost use Rattle.least_cost.specs.Search.{total, leastTotal, leastCount};
 ghost use Rattle.prices.specs.Book.{bookOf};
-ghost use Rattle.trellis.specs.Rows.{Checked, RowAt, CountsAt, problem, considered};
+ghost use Rattle.trellis_table.specs.Rows.{Checked, RowAt, CountsAt, problem, considered};
 
 // The least cost, and the count that has it.
 pub struct Best {
@@ -63,7 +63,7 @@ fn total_of(
     live[at] + steps::tokens::count_cost(clusters, map, configs, symbols, ready, plan, n)
 }
 
-pub(crate) fn best_count(
+pub fn best_count(
     clusters: u32,
     map: &[u8],
     configs: &[u8],

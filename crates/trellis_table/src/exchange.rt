@@ -14,7 +14,7 @@ ghost use Rattle.block.specs.Block.{blockOf, covered, inputRemaining};
 ghost use Rattle.block.specs.Band.{pastWindow};
 ghost use Rattle.prices.specs.Book.{bookOf};
 ghost use Rattle.weights.specs.Window.{windowOf};
-ghost use Rattle.trellis.specs.Rows.{windowLength, Checked, TailRow, Rowed, Kept};
+ghost use Rattle.trellis_table.specs.Rows.{windowLength, Checked, TailRow, Rowed, Kept};
 
 // Where the costs of the first position stand, and for which counts.
 pub struct Last {
@@ -23,13 +23,13 @@ pub struct Last {
 }
 
 // The row that holds the costs of the first position, after the last exchange.
-pub(crate) fn live_row<'a>(first: &'a [f32], second: &'a [f32], in_first: bool) -> &'a [f32]
+pub fn live_row<'a>(first: &'a [f32], second: &'a [f32], in_first: bool) -> &'a [f32]
     ensures { λ r. ⌜ now r ≡ cond «in_first» (now (first .entry)) (now (second .entry)) ⌝ }
 {
     if in_first { first } else { second }
 }
 
-pub(crate) fn take_positions(
+pub fn take_positions(
     clusters: u32,
     map: &[u8],
     configs: &[u8],

@@ -11,11 +11,11 @@ ghost use Rattle.block.specs.Block.{blockOf, covered, inputRemaining};
 ghost use Rattle.block.specs.Band.{pastWindow};
 ghost use Rattle.prices.specs.Book.{bookOf};
 ghost use Rattle.weights.specs.Window.{windowOf};
-ghost use Rattle.trellis.specs.Rows.{windowLength, leastCount, Checked, RowAt, Stepped};
+ghost use Rattle.trellis_table.specs.Rows.{windowLength, leastCount, Checked, RowAt, Stepped};
 
 const MAX_NZERO_DELTA: usize = 6;
 
-pub(crate) const BAND_STRIDE: usize = 28;
+pub const BAND_STRIDE: usize = 28;
 
 // The counts that a row holds.
 pub struct Counts {
@@ -51,7 +51,7 @@ fn less(a: usize) -> usize
     }
 }
 
-pub(crate) fn least_count(past: usize, after: usize) -> usize
+pub fn least_count(past: usize, after: usize) -> usize
     ensures { λ r. ⌜ r ≡ leastCount past after ⌝ }
 {
     larger(past, less(after))
@@ -80,7 +80,7 @@ fn span_of(after: usize, next: Counts) -> Span
     }
 }
 
-pub(crate) fn take_position(
+pub fn take_position(
     clusters: u32,
     map: &[u8],
     configs: &[u8],

@@ -1,8 +1,8 @@
-use Rattle.trellis.proofs.Turns.{from-first, from-second, after-back, to-first, to-second}
+use Rattle.trellis_table.proofs.Turns.{from-first, from-second, after-back, to-first, to-second}
 use native.Mathlib.Nat.{le-refl}
-use Rattle.trellis.proofs.Turns.{rowed-start, chosen-more}
-use Rattle.trellis.proofs.Steps.{window-is}
-use Rattle.trellis.specs.Rows.{windowLength, Rowed, Kept}
+use Rattle.trellis_table.proofs.Turns.{rowed-start, chosen-more}
+use Rattle.trellis_table.proofs.Steps.{window-is}
+use Rattle.trellis_table.specs.Rows.{windowLength, Rowed, Kept}
 use Rattle.block.specs.Block.{blockOf}
 use Rattle.prices.specs.Book.{bookOf}
 use lib.ListN.{length}
@@ -10,8 +10,8 @@ use native.Mathlib.Omega.{arith}
 use Prim.Native.Nat.{ℕ, suc, _+_, _-_, _*_, _≤_, _<_}
 use mathlib.Core.Path.{_≡_, refl, sym, _∙_, ap}
 use borrow.Author.Needs.{needs}
-use Rattle.trellis.proofs.exchange.take_positions.Statement.{statement}
-use Rattle.trellis.proofs.exchange.take_positions.Tie as tie
+use Rattle.trellis_table.proofs.exchange.take_positions.Statement.{statement}
+use Rattle.trellis_table.proofs.exchange.take_positions.Tie as tie
 
 abbrev Inv-loop : tie.InvT-loop
 Inv-loop clusters map configs symbols ready shape settings bias scale scan source inv-qm levels plan past first₀ second₀ choices₀ step₀ in-first₀ i₀ first second choices step in-first i =

@@ -1,18 +1,18 @@
 use Rattle.least_cost.proofs.Trial.{nz-le}
-use Rattle.trellis.proofs.Steps.{lowest-is, highest-is, from-is, upto-is, room-of, space-of, sum-is, level-current}
+use Rattle.trellis_table.proofs.Steps.{lowest-is, highest-is, from-is, upto-is, room-of, space-of, sum-is, level-current}
 use Rattle.steps.proofs.Zero.{handed-back}
-use Rattle.trellis.specs.Rows.{leastCount}
+use Rattle.trellis_table.specs.Rows.{leastCount}
 use Prim.Native.Nat.{max, min}
 use lib.ListN.{length}
-use Rattle.trellis.proofs.Steps.{readable-here, base-few, position-few, window-is, window-few, remaining-few, past-few, working, counts-narrow, counts-some, stepped}
+use Rattle.trellis_table.proofs.Steps.{readable-here, base-few, position-few, window-is, window-few, remaining-few, past-few, working, counts-narrow, counts-some, stepped}
 use Rattle.least_cost.specs.Position.{nz}
 use Rattle.steps.specs.Plan.{Lists}
 use native.Mathlib.Omega.{arith}
 use Prim.Native.Nat.{ℕ, suc, _+_, _-_, _*_, _≤_, _<_}
 use mathlib.Core.Path.{_≡_, refl, sym, _∙_, ap}
 use borrow.Author.Needs.{needs}
-use Rattle.trellis.proofs.position.take_position.Statement.{statement}
-use Rattle.trellis.proofs.position.take_position.Tie as tie
+use Rattle.trellis_table.proofs.position.take_position.Statement.{statement}
+use Rattle.trellis_table.proofs.position.take_position.Tie as tie
 
 spot-requires : tie.Need-spot-requires
 spot-requires c κs = let pre = c .before .before .before .before .before .before .before .before .before .before .pre in (readable-here (pre .0) _ (pre .1 .0), (base-few (pre .0), position-few (pre .0) _ (pre .1 .0)))

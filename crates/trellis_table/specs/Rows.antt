@@ -22,10 +22,9 @@ use Rattle.steps.specs.declared.reading.Plan.{Plan}
 use Rattle.trellis_row.specs.Row.{Elsewhere}
 use Rattle.trellis_row.specs.Table.{RowFor, ChoicesFor}
 use Rattle.weights.specs.Window.{windowOf}
-use Rattle.trellis.specs.declared.count.Best.{Best}
-use Rattle.trellis.specs.declared.position.Counts.{Counts}
-use Rattle.trellis.specs.declared.position.Step.{Step}
-use Rattle.trellis.specs.declared.search.Found.{Found}
+use Rattle.trellis_table.specs.declared.count.Best.{Best}
+use Rattle.trellis_table.specs.declared.position.Counts.{Counts}
+use Rattle.trellis_table.specs.declared.position.Step.{Step}
 
 -- the window of a block
 abbrev pub windowLength : Block → ℕ
@@ -104,36 +103,3 @@ pub record TailRow (book : Book) (b : Block) (past : ℕ) (row : List Float) : T
 -- a cost that is below the least so far takes its place
 unfoldable pub considered : Best → Float → ℕ → Best
 considered best x n = cond (lt x (best .cost)) (record { cost = x; count = n }) best
-
--- what the walk goes by: rows and choices that are done, and a count of finite cost
-pub record Walkable (scan : List ℕ) (source inverse : List Float) (levels : List ℤ) (plan : Plan) (past nonzeros : ℕ) (choices : List ℕ) (count : ℕ) : Type 0 where
-  pub book : Book
-  pub block : Block
-  pub lists : Lists block scan source inverse levels
-  pub checked : Checked book block plan
-  pub past-is : past ≡ pastWindow (windowOf (covered block)) block
-  pub nonzeros-are : nonzeros ≡ inputRemaining block (covered block)
-  pub chosen : ChosenFrom book block 0 choices
-  pub room : 28 * windowLength block ≤ length choices
-  pub cheap : T (finite (best (tail book block) (positions book block 0) count (firstPrev block count)))
-
--- the levels of the walk from `count` on
-abbrev pub walked : Book → Block → ℕ → List ℤ
-walked book b count = walk (tail book b) (positions book b 0) count (firstPrev b count)
-
--- what the search of a block finds, and the choices that lead to it
-pub record FoundIn (book : Book) (b : Block) (choices : List ℕ) (f : Found) : Type 0 where
-  pub cost-is : f .cost ≡ leastTotal (problem book b)
-  pub count-is : f .count ≡ Search.leastCount (problem book b)
-  pub past-is : f .past ≡ pastWindow (windowOf (covered b)) b
-  pub nonzeros-are : f .nonzeros ≡ inputRemaining b (covered b)
-  pub chosen : ChosenFrom book b 0 choices
-
--- a search that is done, and what it was of
-pub record Done (scan : List ℕ) (source inverse : List Float) (levels : List ℤ) (plan : Plan) (choices : List ℕ) (f : Found) : Type 0 where
-  pub book : Book
-  pub block : Block
-  pub lists : Lists block scan source inverse levels
-  pub checked : Checked book block plan
-  pub found : FoundIn book block choices f
-  pub room : 28 * windowLength block ≤ length choices

@@ -45,9 +45,9 @@ use Rattle.trellis_row.proofs.Rows.{nonzero-tail-cost}
 use Rattle.trellis_row.proofs.Table.{Common, row-for, choices-for}
 use Rattle.weights.specs.Window.{windowOf, baseLen}
 use Rattle.weights.specs.declared.Window.{Window}
-use Rattle.trellis.specs.Rows.{windowLength, tail, position, positions, leastCount, Checked, RowAt, ChosenAt, Stepped}
-use Rattle.trellis.specs.declared.position.Counts.{Counts}
-use Rattle.trellis.specs.declared.position.Step.{Step}
+use Rattle.trellis_table.specs.Rows.{windowLength, tail, position, positions, leastCount, Checked, RowAt, ChosenAt, Stepped}
+use Rattle.trellis_table.specs.declared.position.Counts.{Counts}
+use Rattle.trellis_table.specs.declared.position.Step.{Step}
 
 base-small : (c : ℕ) → baseLen c ≤ 1024
 base-small c = omega arith

@@ -19,9 +19,9 @@ use Rattle.prices.specs.Book.{Book}
 use Rattle.trellis_row.specs.Row.{Elsewhere}
 use Rattle.trellis_row.specs.Table.{RowFor, ChoicesFor}
 use Rattle.weights.specs.Window.{windowOf}
-use Rattle.trellis.specs.Rows.{windowLength, tail, position, positions, RowAt, ChosenAt, ChosenFrom, Stepped, Rowed, TailRow}
-use Rattle.trellis.specs.declared.position.Counts.{Counts}
-use Rattle.trellis.specs.declared.position.Step.{Step}
+use Rattle.trellis_table.specs.Rows.{windowLength, tail, position, positions, RowAt, ChosenAt, ChosenFrom, Stepped, Rowed, TailRow}
+use Rattle.trellis_table.specs.declared.position.Counts.{Counts}
+use Rattle.trellis_table.specs.declared.position.Step.{Step}
 
 end-positions : (book : Book) (b : Block) → positions book b (windowLength b) ≡ []
 unfolding positionsFrom

@@ -21,11 +21,11 @@ use Rattle.problem.proofs.Problem.{past-most}
 use Rattle.problem.specs.Tokens.{pastLength}
 use Rattle.steps.specs.declared.reading.Plan.{Plan}
 use Rattle.weights.specs.Window.{windowOf}
-use Rattle.trellis.specs.Rows.{windowLength, tail, positions, problem, Checked, RowAt, CountsAt, considered}
-use Rattle.trellis.specs.Rows as Rows
-use Rattle.trellis.specs.declared.count.Best.{Best}
-use Rattle.trellis.specs.declared.position.Counts.{Counts}
-use Rattle.trellis.proofs.Steps.{room-left, after-same, passed-block, window-few, past-after, least-most}
+use Rattle.trellis_table.specs.Rows.{windowLength, tail, positions, problem, Checked, RowAt, CountsAt, considered}
+use Rattle.trellis_table.specs.Rows as Rows
+use Rattle.trellis_table.specs.declared.count.Best.{Best}
+use Rattle.trellis_table.specs.declared.position.Counts.{Counts}
+use Rattle.trellis_table.proofs.Steps.{room-left, after-same, passed-block, window-few, past-after, least-most}
 
 pub bit-few : (t : Bool) → cond t 1 0 ≤ 1
 bit-few true = lit≤ tt
