@@ -16,7 +16,7 @@ ghost use Rattle.block.specs.Outcome.{RefusedKeeps};
 ghost use Rattle.beam.specs.Demand.{RefusedExactly, KeptAnswered};
 
 // Writes the levels of the cheapest path that is left, and answers its cost and its count of nonzero levels from scan position c on; or
-// refuses with 16 where every path that is left has an infinite cost. Both ways the choice bytes end as 255. Refused by one of checks 1
+// refuses with 16 where every path that is left has an infinite cost. Both ways the choice bytes end as 255, surplus included. Room: six choice bytes a window position. Refused by one of checks 1
 // to 14, nothing changes. A level written may be 32,768 in size, which check 12 refuses in a later call.
 pub fn rdoq_block_beam(
     clusters: u32,

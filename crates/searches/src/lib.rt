@@ -72,7 +72,8 @@ fn beam_with_rows(
     answer
 }
 
-// Re-picks the levels of a block by the search that is named.
+// Re-picks the levels of a block by the search that is named, over all that a caller lends. Greedy touches no room, whatever its lengths. The beam asks for choice
+// bytes alone; where it searches, it clears all of the room, the rows too. The trellis is `rdoq_block_banded`.
 pub fn rdoq_block(
     search: Search,
     clusters: u32,
