@@ -1,1 +1,1 @@
-mod Apart
+pub mod Apart

@@ -1,4 +1,4 @@
--- `price_view::token_bits_by_view` meets its contract: a walk of its MIR, by hand. The view that `new` returns is held in a local and passed on. All that the proof knows of the two calls is that each meets its contract.
+-- `rdoq::view::token_bits_by_view` meets its contract: a walk of its MIR, by hand. The view that `new` returns is held in a local and passed on. All that the proof knows of the two calls is that each meets its contract.
 -- In a local MIR erases the lifetime of the view's type, so the value is shown to have the type at `erased`: what the view owns does not say the lifetime's name.
 -- Assumes nothing.
 use mathlib.Core.Path.{_≡_, refl, ap, _∙_}
@@ -35,27 +35,27 @@ use denote.Triple.Table.{entered, cited}
 use denote.Triple.Walked.{says, Stays, stay-none, stay-none-slice, walkOf, goes-none, goes-none-slice, Walks, ends-at, walked, walk-meets}
 use denote.Exit.{yes}
 use denote.Triple.Clauses.{ensured, lasts}
-use Rattle.price_leaves.specs.Leaf.{tokenReply}
-use Rattle.price_leaves.specs.declared.Price.{Price}
-use Rattle.price_leaves.proofs.Price as S
-use Rattle.price_leaves.proofs.Price.Laws as S′
+use Rattle.rdoq.specs.Prices.{priceReply}
+use Rattle.rdoq.specs.declared.answer.Real.{Real}
+use Rattle.rdoq.proofs.answer.Real as S
+use Rattle.rdoq.proofs.answer.Real.Laws as S′
 use Rattle.price_view.specs.View.{viewOf, bookIn}
 use Rattle.price_view.specs.declared.PriceView.{PriceView}
 use Rattle.price_view.proofs.Apart.{B, token, Known, fields, Fields, fieldVals, mapAt, configsAt, symbolsAt, readyAt, plainArgs, passed, Asked, fields-of}
 use Rattle.price_view.proofs.PriceView as T
 use Rattle.price_view.proofs.PriceView.Laws as T′
 use Rattle.price_view.proofs.new as new
 use Rattle.price_view.proofs.new.Symbol as new-def
 use Rattle.price_view.proofs.new.Symbol.{name as #price-view·new}
 use Rattle.price_view.proofs.new.Met as new-thm
-use Rattle.price_view.proofs.token_bits as bits
-use Rattle.price_view.proofs.token_bits.Symbol as bits-def
-use Rattle.price_view.proofs.token_bits.Symbol.{name as #price-view·token-bits}
-use Rattle.price_view.proofs.token_bits.Met as bits-thm
-use Rattle.price_view.proofs.token_bits_by_view.Key.{name as #price-view·token-bits-by-view}
-use Rattle.price_view.proofs.token_bits_by_view as whole
-use Rattle.price_view.proofs.token_bits_by_view.Statement as stated
-use Rattle.price_view.proofs.token_bits_by_view.Code as code
+use Rattle.rdoq.proofs.view.token_bits as bits
+use Rattle.rdoq.proofs.view.token_bits.Symbol as bits-def
+use Rattle.rdoq.proofs.view.token_bits.Symbol.{name as #rdoq·view·token-bits}
+use Rattle.rdoq.proofs.view.token_bits.Met as bits-thm
+use Rattle.rdoq.proofs.view.token_bits_by_view.Key.{name as #rdoq·view·token-bits-by-view}
+use Rattle.rdoq.proofs.view.token_bits_by_view as whole
+use Rattle.rdoq.proofs.view.token_bits_by_view.Statement as stated
+use Rattle.rdoq.proofs.view.token_bits_by_view.Code as code
 
 abbrev stayed : Stays (whole.ended .signature .params) (whole.ended .kept)
 stayed = (stay-none (λ _. u32) yes, (stay-none-slice (0 ∷ []) tt (plain (λ _. u8)) yes, (stay-none-slice (0 ∷ []) tt (plain (λ _. u8)) yes, (stay-none-slice (0 ∷ []) tt (plain (λ _. f32)) yes, (stay-none-slice (0 ∷ []) tt (plain (λ _. f32)) yes, (stay-none (λ _. u32) yes, (stay-none (λ _. u32) yes, tt)))))))
@@ -70,8 +70,8 @@ module _ {M : Type 1} (𝓤 : URA M) (H : Heap 𝓤) (A : Atoms 𝓤) (mem : Mem
 
 -- d is the view that the parameters make
 module _ {M : Type 1} (𝓤 : URA M) (H : Heap 𝓤) (A : Atoms 𝓤) (W : Given 𝓤 H A) (mem : Memory → SProp 𝓤) (run : Routine → Fun 𝓤) (κ : Lft) (q : Share) (d : PriceView) (c n : ℕ) (c-fits : c < 2 ^ 32) (n-fits : n < 2 ^ 32) where
-  abbrev reply : PriceView → Price
-  reply v = tokenReply (bookIn v) c n
+  abbrev reply : PriceView → Real
+  reply v = priceReply (bookIn v) c n
 
   -- the view's type as a local of a body has it
   abbrev αᵉ : NamedLft
@@ -101,16 +101,16 @@ module _ {M : Type 1} (𝓤 : URA M) (H : Heap 𝓤) (A : Atoms 𝓤) (W : Given
       qed W (‵ (B (κ, tt) .own r (u ∷ [])) ∷ token 𝓤 κ q ∷ []) ∵ nothing ! $ owned ! u32 (Is u32) (uint-makes 𝓤 H A W w32) n _ (refl, n-fits) $ fjoin ! $ owned ! u32 (Is u32) (uint-makes 𝓤 H A W w32) c _ (refl, c-fits) $ fjoin ! $
       move ! (1 ∷ 0 ∷ []) $ fjoin ! $ move ! (1 ∷ 0 ∷ []) $ join ! $ frame ! $ done !
 
-  bits-said : (r : PriceView) (t : Price) → ent 𝓤 (ensured 𝓤 H A bits.ended (bits.clauses 𝓤 H A mem run) (κ, tt) (r, (c, (n, tt))) tt t) (fact 𝓤 (t ≡ reply r))
+  bits-said : (r : PriceView) (t : Real) → ent 𝓤 (ensured 𝓤 H A bits.ended (bits.clauses 𝓤 H A mem run) (κ, tt) (r, (c, (n, tt))) tt t) (fact 𝓤 (t ≡ reply r))
   bits-said r t = exE 𝓤 _ (λ ws. snd∗ 𝓤 (sem 𝓤 H A (lasts bits.ended (κ, tt) (r, (c, (n, tt))) ws)) (fact 𝓤 (t ≡ reply r)))
 
-  exits : (t : Price) (u : Val) → t ≡ reply d → ent 𝓤 (⋆ 𝓤 H A (‵ (S.the-row .own t (u ∷ [])) ∷ token 𝓤 κ q ∷ ‵ (Asked κ d c n) ∷ [])) (Post u)
+  exits : (t : Real) (u : Val) → t ≡ reply d → ent 𝓤 (⋆ 𝓤 H A (‵ (S.the-row .own t (u ∷ [])) ∷ token 𝓤 κ q ∷ ‵ (Asked κ d c n) ∷ [])) (Post u)
   exits t u e =
       qed W (‵ (S.the-row .own t (u ∷ [])) ∷ token 𝓤 κ q ∷ ‵ (Asked κ d c n) ∷ []) ∵
       suffices ! _ (ends-at 𝓤 H A whole.ended stayed (whole.clauses 𝓤 H A mem run) W (((κ, tt), (q, tt), tt, plainArgs κ d c n, passed κ d c n), tt) u t (tt, (tt, (tt, (tt, (tt, (tt, (tt, tt))))))) (tt, (tt, (tt, (tt, (tt, (tt, (tt, tt)))))))) $ says ! e $
       move ! (1 ∷ []) $ frame ! $ move ! (1 ∷ []) $ frame ! $ done !
 
-  module _ (C : Calls 𝓤 H) (Λ : Loops 𝓤 H) (fm : FmC 𝓤 H (W .laws) C) (known-new : Triple 𝓤 (C #price-view·new) (New 𝓤 H A mem run)) (known-bits : Triple 𝓤 (C #price-view·token-bits) (Bits 𝓤 H A mem run)) (known : Known κ d) where
+  module _ (C : Calls 𝓤 H) (Λ : Loops 𝓤 H) (fm : FmC 𝓤 H (W .laws) C) (known-new : Triple 𝓤 (C #price-view·new) (New 𝓤 H A mem run)) (known-bits : Triple 𝓤 (C #rdoq·view·token-bits) (Bits 𝓤 H A mem run)) (known : Known κ d) where
     walk : ent 𝓤 (onEntry 𝓤 H A whole.signature (κ, tt) (q, tt) (plainArgs κ d c n) (passed κ d c n)) (WpFn 𝓤 H C Λ code.function (vint w32 (d .clusters) ∷ mapAt d ∷ configsAt d ∷ symbolsAt d ∷ readyAt d ∷ vint w32 c ∷ vint w32 n ∷ []) Post)
     walk =
         qed W (raw (onEntry 𝓤 H A whole.signature (κ, tt) (q, tt) (plainArgs κ d c n) (passed κ d c n)) ∷ []) ∵ enter ! C Λ code.function (vint w32 (d .clusters) ∷ mapAt d ∷ configsAt d ∷ symbolsAt d ∷ readyAt d ∷ vint w32 c ∷ vint w32 n ∷ []) _ $
@@ -132,7 +132,7 @@ module _ {M : Type 1} (𝓤 : URA M) (H : Heap 𝓤) (A : Atoms 𝓤) (W : Given
         land ! (from ! (stop !)) (init ! 3 refl (LL.lawful (T.the-type αᵉ) (T′.the-laws αᵉ) 𝓤 H A W .typed r _ is .0)) $
         use2 W (raw (Bits 𝓤 H A mem run .pre (to-bits r u))) (goes-bits r u) $
         calls-at ! fm (Bits 𝓤 H A mem run) known-bits (to-bits r u) (and-then ! (load ! (from ! (stop !)) (look ! 2 refl)) (and-then ! (load ! (from ! (stop !)) (look ! 6 refl)) (and-then ! (load ! (from ! (stop !)) (look ! 4 refl)) (no-more !)))) (λ u′.
-        use1 W (later (some (λ (t : Price). (token 𝓤 κ q ⊛ ‵ (S.the-row .own t (u′ ∷ []))) ⊛ raw (ensured 𝓤 H A bits.ended (bits.clauses 𝓤 H A mem run) (κ, tt) (r, (c, (n, tt))) tt t)))) (id⊢ 𝓤 _) $ await ! tt $ pick ! (λ t.
+        use1 W (later (some (λ (t : Real). (token 𝓤 κ q ⊛ ‵ (S.the-row .own t (u′ ∷ []))) ⊛ raw (ensured 𝓤 H A bits.ended (bits.clauses 𝓤 H A mem run) (κ, tt) (r, (c, (n, tt))) tt t)))) (id⊢ 𝓤 _) $ await ! tt $ pick ! (λ t.
         split ! $ move ! (1 ∷ []) $ use1 W (raw (fact 𝓤 (t ≡ reply r))) (bits-said r t) $ heard ! (t ≡ reply r) (λ e′. split ! $ move ! (1 ∷ []) $
         -- [the result; the token; what the parameters own; _8; …; _7; …; _1; …; room for _0; …]
         peeks ! S.the-row (Is S.the-row) (shows 𝓤 H A S.the-row) t (u′ ∷ []) (λ is′.
@@ -142,7 +142,7 @@ module _ {M : Type 1} (𝓤 : URA M) (H : Heap 𝓤) (A : Atoms 𝓤) (W : Given
         move ! (9 ∷ 10 ∷ []) $ free1 ! $ move ! (7 ∷ 8 ∷ []) $ free1 ! $ move ! (5 ∷ 6 ∷ []) $ free1 ! $ move ! (3 ∷ 4 ∷ []) $ free1 ! $ free0 ! $ by ! (exits t u′ (e′ ∙ ap reply e)))))))))))))))))))
 
 module _ {M : Type 1} (𝓤 : URA M) (H : Heap 𝓤) (A : Atoms 𝓤) (W : Given 𝓤 H A) (mem : Memory → SProp 𝓤) (run : Routine → Fun 𝓤) where
-  whole-walks : (C : Calls 𝓤 H) (Λ : Loops 𝓤 H) → FmC 𝓤 H (W .laws) C → Triple 𝓤 (C #price-view·new) (New 𝓤 H A mem run) → Triple 𝓤 (C #price-view·token-bits) (Bits 𝓤 H A mem run)
+  whole-walks : (C : Calls 𝓤 H) (Λ : Loops 𝓤 H) → FmC 𝓤 H (W .laws) C → Triple 𝓤 (C #price-view·new) (New 𝓤 H A mem run) → Triple 𝓤 (C #rdoq·view·token-bits) (Bits 𝓤 H A mem run)
       → Walks 𝓤 H A whole.ended stayed (WpFn 𝓤 H C Λ code.function) (whole.clauses 𝓤 H A mem run)
   whole-walks C Λ fm known-new known-bits = walked 𝓤 H A whole.ended stayed (whole.clauses 𝓤 H A mem run) (WpFn 𝓤 H C Λ code.function) (λ κs. (uint-vals w32, (slice-vals, (slice-vals, (slice-vals, (slice-vals, (uint-vals w32, (uint-vals w32, tt))))))))
       (λ κs. (uint-tells w32, (shr-slice-tells (named 0) (κs .0) u8, (shr-slice-tells (named 0) (κs .0) u8, (shr-slice-tells (named 0) (κs .0) f32, (shr-slice-tells (named 0) (κs .0) f32, (uint-tells w32, (uint-tells w32, tt))))))))
@@ -150,7 +150,7 @@ module _ {M : Type 1} (𝓤 : URA M) (H : Heap 𝓤) (A : Atoms 𝓤) (W : Given
       (record { clusters = are .0 .1; map = are .1 .0; configs = are .1 .1 .0; symbols = are .1 .1 .1 .0; ready = are .1 .1 .1 .1 .0 })))
 
 whole-meets : {M : Type 1} (𝓤 : URA M) (H : Heap 𝓤) (A : Atoms 𝓤) (W : Given 𝓤 H A) (mem : Memory → SProp 𝓤) (run : Routine → Fun 𝓤) (𝓣 : Tables 𝓤 H)
-    → Triple 𝓤 (𝓣 .C #price-view·new) (New 𝓤 H A mem run) → Triple 𝓤 (𝓣 .C #price-view·token-bits) (Bits 𝓤 H A mem run)
+    → Triple 𝓤 (𝓣 .C #price-view·new) (New 𝓤 H A mem run) → Triple 𝓤 (𝓣 .C #rdoq·view·token-bits) (Bits 𝓤 H A mem run)
     → Meets 𝓤 H A whole.signature (WpFn 𝓤 H (𝓣 .C) (𝓣 .Λ) code.function) (whole.spec 𝓤 H A mem run)
 whole-meets 𝓤 H A W mem run 𝓣 known-new known-bits =
     walk-meets 𝓤 H A whole.ended stayed W
@@ -162,7 +162,7 @@ pub token-bits-by-view-spec : {M : Type 1} → stated.statement M
 unfolding code.routine tablesOf
 token-bits-by-view-spec 𝓤 H 𝓜 𝓖 𝓡 =
     entered 𝓤 H (tripleOf 𝓤 H (𝓖 .A) whole.signature (whole.spec 𝓤 H (𝓖 .A) (𝓜 .mem) (𝓡 .run)))
-    (tables 𝓤 H 𝓜 𝓡 code.env .C) (tables 𝓤 H 𝓜 𝓡 code.env .Λ) #price-view·token-bits-by-view code.function (code.unfolded 𝓤 H 𝓜 𝓡)
+    (tables 𝓤 H 𝓜 𝓡 code.env .C) (tables 𝓤 H 𝓜 𝓡 code.env .Λ) #rdoq·view·token-bits-by-view code.function (code.unfolded 𝓤 H 𝓜 𝓡)
     (whole-meets 𝓤 H (𝓖 .A) (givenOf 𝓤 H 𝓜 𝓖) (𝓜 .mem) (𝓡 .run) (tablesOf 𝓤 H 𝓜 (tables 𝓤 H 𝓜 𝓡 code.env))
     (cited 𝓤 H (New 𝓤 H (𝓖 .A) (𝓜 .mem) (𝓡 .run)) 𝓜 𝓡 code.env #price-view·new new-def.routine code.calls-price-view·new (new-thm.met 𝓤 H 𝓜 𝓖 𝓡))
-    (cited 𝓤 H (Bits 𝓤 H (𝓖 .A) (𝓜 .mem) (𝓡 .run)) 𝓜 𝓡 code.env #price-view·token-bits bits-def.routine code.calls-price-view·token-bits (bits-thm.met 𝓤 H 𝓜 𝓖 𝓡)))
+    (cited 𝓤 H (Bits 𝓤 H (𝓖 .A) (𝓜 .mem) (𝓡 .run)) 𝓜 𝓡 code.env #rdoq·view·token-bits bits-def.routine code.calls-rdoq·view·token-bits (bits-thm.met 𝓤 H 𝓜 𝓖 𝓡)))
