@@ -1,8 +1,9 @@
 // The price calls of `book` over a view: a price book as one value, which refers to the caller's context map, configurations and prices (document 01, "a price
-// view"). A view is made by `price_view::new` of the parts that the calls of `book` take, and answers as they do. It costs a copy of four slices and a number.
+// view"). A view is made by `new` of the parts that the calls of `book` take, and answers as they do. It costs a copy of four slices and a number.
 use crate::answer::Real;
 use crate::answer::RealPair;
-use price_view::PriceView;
+pub use price_view::PriceView;
+pub use price_view::new;
 ghost use mathlib.Core.Path.{_≡_};
 ghost use Rattle.prices.specs.Book.{bookOf};
 ghost use Rattle.price_view.specs.View.{bookIn};
@@ -50,11 +51,7 @@ pub fn token_bits_by_view<'a>(
 ) -> Real
     ensures { λ r. ⌜ r ≡ priceReply (bookOf clusters (now (map .entry)) (now (configs .entry)) (now (symbols .entry)) (now (ready .entry))) context value ⌝ }
 {
-    token_bits(
-        price_view::new(clusters, map, configs, symbols, ready),
-        context,
-        value,
-    )
+    token_bits(new(clusters, map, configs, symbols, ready), context, value)
 }
 
 // The prices in a context and the next one, likewise.
@@ -69,9 +66,5 @@ pub fn token_bits_pair_by_view<'a>(
 ) -> RealPair
     ensures { λ r. ⌜ r ≡ pairReply (bookOf clusters (now (map .entry)) (now (configs .entry)) (now (symbols .entry)) (now (ready .entry))) context value ⌝ }
 {
-    token_bits_pair(
-        price_view::new(clusters, map, configs, symbols, ready),
-        context,
-        value,
-    )
+    token_bits_pair(new(clusters, map, configs, symbols, ready), context, value)
 }
