@@ -6,4 +6,5 @@ pub mod dequant;
 pub mod levels;
 pub mod search;
 pub mod tokens;
+pub mod view;
 pub mod weighing;
