@@ -1,6 +1,6 @@
 -- What a search is given besides the price book, the window that it works on, and the levels that it may pick there.
 use Prim.Native.Nat.{ℕ, zero, suc, _+_, _-_, _*_}
-use mathlib.Core.List.{List}
+use mathlib.Core.List.{List, [], _∷_}
 use lib.Dec.{ltb}
 use lib.IntN.{ℤ}
 use lib.ListN.{getD}
@@ -30,6 +30,10 @@ abbrev pub blockOf : Shape → Settings → DequantBias → Float → List ℕ �
 blockOf shape settings bias scale scan source inverse levels =
     record { shape = shape; settings = settings; bias = bias; scale = scale; scan = scan; source = source; inverse = inverse; levels = levels }
 
+-- a block with other levels
+abbrev pub withLevels : Block → List ℤ → Block
+withLevels b x = blockOf (b .shape) (b .settings) (b .bias) (b .scale) (b .scan) (b .source) (b .inverse) x
+
 -- c: the covered blocks
 unfoldable pub covered : Block → ℕ
 covered b = b .shape .cx * b .shape .cy
@@ -41,6 +45,11 @@ contextOf b = fineBlockContext (b .shape .channel) (b .shape .strategy) (b .shap
 -- the input's level at scan position k
 unfoldable pub inputAt : Block → ℕ → ℤ
 inputAt b k = levelAt (b .scan) (b .levels) k
+
+-- n of the input's levels, from scan position k on
+unfoldable pub inputFrom : Block → ℕ → ℕ → List ℤ
+inputFrom b k zero = []
+inputFrom b k (suc n) = inputAt b k ∷ inputFrom b (suc k) n
 
 -- nonzero levels among the n scan positions from k on
 unfoldable pub nonzerosAmong : List ℕ → List ℤ → ℕ → ℕ → ℕ

@@ -3,4 +3,5 @@ pub mod Block
 pub mod Checks
 pub mod Cost
 pub mod Band
+pub mod Choice
 pub mod Outcome

@@ -11,25 +11,26 @@ use lib.Dec.{eqb, ltb}
 use lib.IntN.{ℤ}
 use lib.ListN.{length, length-set}
 use lib.Ieee.{Float, inf, lt}
-use Rattle.block.specs.Band.{inputAfter, positionAt, positionsFrom, pastWindow}
-use Rattle.block.specs.Block.{Block, covered, inputAt, inputRemaining, nonzerosAmong, ideal, candidatesAt}
-use Rattle.block.specs.Checks.{blockRefusal, searchRefusal}
+use Rattle.block.specs.Band.{inputAfter, pastWindow}
+use Rattle.block.specs.Block.{Block, withLevels, covered, inputAt, inputRemaining, nonzerosAmong, ideal, candidatesAt}
+use Rattle.block.specs.Choice.{windowLevels, IsChoice}
+use Rattle.block.specs.Checks.{searchRefusal}
 use Rattle.block.specs.Cost.{firstPrev}
 use Rattle.block.specs.declared.Answer.the-variants.{Count}
 use Rattle.block_checks.specs.Passed.{Passed}
 use Rattle.block_checks.proofs.Laws.{passed}
 use Rattle.candidates.proofs.Laws.{Listed, candidates-listed}
-use Rattle.least_cost.specs.Choice.{Choice, done, takes, remaining}
+use Rattle.least_cost.specs.Choice.{remaining}
 use Rattle.least_cost.specs.Position.{nz}
 use Rattle.least_cost.specs.Search.{holder}
 use Rattle.prices.specs.Book.{Book}
-use Rattle.prices.specs.Checks.{bookRefusal}
+use Rattle.problem.proofs.Refusals.{searched}
+use Rattle.problem.proofs.Written.{is-choice}
 use Rattle.scan.specs.Scan.{Perm, levelAt}
 use Rattle.scan.proofs.Through.{level-same, level-other}
 use Rattle.weights.specs.Window.{windowOf}
 use Rattle.weights.specs.declared.Window.{Window}
-use Rattle.greedy.specs.Greedy.{othersOf, runStart, greedyCost, stays, chosen, withLevels, settledAt, settledFrom, greedyLevels, greedyOutcome}
-use Rattle.greedy.specs.Choice.{levelsFrom, windowLevels, IsChoice}
+use Rattle.greedy.specs.Greedy.{othersOf, runStart, greedyCost, stays, chosen, settledAt, settledFrom, greedyLevels, greedyOutcome}
 use Rattle.greedy.proofs.Passing.{among-split}
 
 -- ---- the first least is listed where the level to fall back on is
@@ -96,81 +97,24 @@ module _ (v : Window) (book : Book) where
           (λ j m. subst⁻¹ (λ (xs : List ℤ). Mem (levelAt (b .scan) (settledAt v book b n) (covered b + j)) xs) (same-candidates b (settledAt v book b n) j (off j m)) (cast (off j m) (own j (omega arith))))
           i l)
 
--- ---- counts
-module _ (scan : List ℕ) where
-  among-same : (x y : List ℤ) (k n : ℕ) → ((m : ℕ) → k ≤ m → m < k + n → levelAt scan x m ≡ levelAt scan y m) → nonzerosAmong scan x k n ≡ nonzerosAmong scan y k n
-  unfolding nonzerosAmong
-  among-same x y k zero e = refl
-  among-same x y k (suc n) e =
-      let one = e k (omega arith) (omega arith) in
-      let rest = among-same x y (suc k) n (λ m l h. e m (omega arith) (omega arith)) in
-      cc
-
-  remaining-is : (x : List ℤ) (s k n : ℕ) → remaining s (levelsFrom scan x k n) ≡ nonzerosAmong scan x k n + s
-  unfolding remaining levelsFrom nonzerosAmong
-  remaining-is x s k zero = omega arith
-  remaining-is x s k (suc n) = omega (arith, remaining-is x s (suc k) n)
-
--- ---- the choice
-choice-from : (w : ℕ) (v : Window) (book : Book) (b : Block) (x : List ℤ) (i n : ℕ) → ((j : ℕ) → i ≤ j → j < i + n → Mem (levelAt (b .scan) x (covered b + j)) (candidatesAt v b j))
-    → Choice (positionsFrom w v book b i n) (levelsFrom (b .scan) x (covered b + i) n)
-unfolding positionsFrom positionAt levelsFrom
-choice-from w v book b x i zero m = done
-choice-from w v book b x i (suc n) m =
-    let next : covered b + suc i ≡ suc (covered b + i) = omega arith in
-    let rest = rw next at (choice-from w v book b x (suc i) n (λ j l h. m j (omega arith) (omega arith))) in
-    takes (m i (omega arith) (omega arith)) rest
-
 -- Greedy's levels are a choice, and the count that it answers is theirs.
 pub greedy-choice : (w : ℕ) (v : Window) (book : Book) (b : Block) → Passed v b → IsChoice w v book b (greedyLevels v book b)
-unfolding greedyLevels windowLevels inputAt candidatesAt inputRemaining pastWindow covered
+unfolding greedyLevels inputAt candidatesAt covered
 greedy-choice w v book b a =
-    record {
-      listed = rw zero-front at (choice-from w v book b x 0 (v .length) (λ j l h. settled-listed v book (v .length) b (a .scanned) (a .levels-long) (a .window .fits) own j (omega arith)));
-      before = λ k h. off k (omega (arith, a .window .fits)) (λ i l e. omega arith);
-      after = λ k l h. off k h (λ i m e. omega arith);
-      count = counted;
-    }
+    is-choice w v book b (settledFrom v book (v .length) b) a
+    (λ k h apart. settled-off v book (v .length) b (a .scanned) k (a .window .fits) h apart)
+    (λ i h. settled-listed v book (v .length) b (a .scanned) (a .levels-long) (a .window .fits) own i h)
   where
-    x : List ℤ
-    x = settledFrom v book (v .length) b
-
-    zero-front : covered b + 0 ≡ covered b
-    zero-front = omega arith
-
     own : (i : ℕ) → i < v .length → Mem (inputAt b (covered b + i)) (candidatesAt v b i)
     own i h = first-listed _ _ (candidates-listed (ideal b i) (inputAt b (covered b + i)) (ltb i (v .restoring)) (a .ideals i h) (a .current (covered b + i) (omega arith) (omega (arith, a .window .fits))))
 
-    off : (k : ℕ) → k < 64 * covered b → ((i : ℕ) → i < v .length → k ≡ covered b + i → ⊥) → levelAt (b .scan) x k ≡ levelAt (b .scan) (b .levels) k
-    off k h apart = settled-off v book (v .length) b (a .scanned) k (a .window .fits) h apart
-
-    counted : remaining (pastWindow v b) (levelsFrom (b .scan) x (covered b) (v .length)) ≡ nonzerosAmong (b .scan) x (covered b) (64 * covered b - covered b)
-    counted =
-        let n : ℕ = v .length in
-        let rest : ℕ = 64 * covered b - (covered b + v .length) in
-        let parts : 64 * covered b - covered b ≡ v .length + (64 * covered b - (covered b + v .length)) = omega (arith, a .window .fits) in
-        let past : pastWindow v b ≡ nonzerosAmong (b .scan) x (covered b + v .length) (64 * covered b - (covered b + v .length)) =
-        sym (among-same (b .scan) x (b .levels) (covered b + v .length) (64 * covered b - (covered b + v .length)) (λ m l h. off m (omega (arith, a .window .fits)) (λ i k e. omega arith))) in
-        remaining-is (b .scan) x (pastWindow v b) (covered b) (v .length)
-        ∙ ap (λ (s : ℕ). nonzerosAmong (b .scan) x (covered b) (v .length) + s) past
-        ∙ sym (among-split (b .scan) x (covered b) (v .length) (64 * covered b - (covered b + v .length)))
-        ∙ ap (nonzerosAmong (b .scan) x (covered b)) (sym parts)
-
 -- ---- the same of what the call leaves and answers, where it refuses nothing
-passes : (book : Book) (b : Block) → searchRefusal book b true ≡ 0 → blockRefusal (windowOf (covered b)) b 0 ≡ 0
-unfolding searchRefusal
-passes book b e = go (eqb (bookRefusal book) 0) refl e
-  where
-    go : (t : Bool) → eqb (bookRefusal book) 0 ≡ t → cond t (blockRefusal (windowOf (covered b)) b 0) (bookRefusal book) ≡ 0 → blockRefusal (windowOf (covered b)) b 0 ≡ 0
-    go true h k = k
-    go false h k = absurd (eqb-false (bookRefusal book) 0 h k)
-
 pub greedy-answers : (w : ℕ) (book : Book) (b : Block) → searchRefusal book b true ≡ 0
     → IsChoice w (windowOf (covered b)) book b (greedyOutcome book b .levels)
     × (greedyOutcome book b .answer ≡ Count (remaining (pastWindow (windowOf (covered b)) b) (windowLevels (windowOf (covered b)) b (greedyOutcome book b .levels))))
 unfolding greedyOutcome
 greedy-answers w book b e =
-    let choice = greedy-choice w (windowOf (covered b)) book b (passed b (passes book b e)) in
+    let choice = greedy-choice w (windowOf (covered b)) book b (passed b (searched book b true e .1 .0)) in
     rw (eq-eqb (searchRefusal book b true) 0 e) (choice, ap Count (sym (choice .count)))
 
 -- ---- `prev` of a run's first zero is 1 at the first position too: where no nonzero level stands behind the run, the whole count is 1

@@ -11,7 +11,7 @@ use lib.ListN.{length}
 use lib.Ieee.{Float}
 use borrow.Author.Tests.{eq-eqb, ne-eqb}
 use Rattle.bias.specs.declared.DequantBias.{DequantBias}
-use Rattle.block.specs.Block.{Block, blockOf, covered, contextOf, inputAt, inputRemaining, ideal, nonzerosAmong}
+use Rattle.block.specs.Block.{Block, blockOf, covered, contextOf, inputAt, inputRemaining, ideal, nonzerosAmong, withLevels}
 use Rattle.ac_context.specs.Contexts.{isPowerBelow}
 use Rattle.block.specs.Checks.{check7, blockRefusal, searchRefusal}
 use Rattle.block.specs.declared.Answer.the-variants.{Count, Refused}
@@ -29,7 +29,7 @@ use Rattle.weights.specs.Window.{windowOf, baseLen}
 use Rattle.weights.specs.declared.Settings.{Settings}
 use Rattle.weights.specs.declared.Window.{Window}
 use Rattle.greedy.specs.declared.pass.Counts.{Counts}
-use Rattle.greedy.specs.Greedy.{withLevels, settledAt, settledFrom, greedyLevels, greedyOutcome}
+use Rattle.greedy.specs.Greedy.{settledAt, settledFrom, greedyLevels, greedyOutcome}
 use Rattle.greedy.specs.Reading.{Fitting, Ready, countFrom}
 use Rattle.greedy.proofs.Passing.{scan-long, within, among-split}
 

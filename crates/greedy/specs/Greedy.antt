@@ -8,7 +8,7 @@ use lib.IntN.{ℤ, pos}
 use lib.ListN.{getD, length, set}
 use lib.Ieee.{Float, fin, inf, add, mul, binary32}
 use Rattle.block.specs.Band.{inputAfter}
-use Rattle.block.specs.Block.{Block, blockOf, covered, inputAt, inputRemaining, nonzerosAmong, candidatesAt}
+use Rattle.block.specs.Block.{Block, withLevels, covered, inputAt, inputRemaining, nonzerosAmong, candidatesAt}
 use Rattle.block.specs.Checks.{searchRefusal}
 use Rattle.block.specs.Cost.{distortion, rate, tokenPrice, firstPrev, countCost}
 use Rattle.block.specs.declared.Answer.{Answer}
@@ -81,10 +81,6 @@ unfoldable pub chosen : Window → Book → Block → ℕ → ℤ
 chosen v book b i =
     let current = inputAt b (covered b + i) in
     cond (stays v b i) current (holder (greedyCost book b i) (inf false) current (candidatesAt v b i))
-
--- a block with other levels
-abbrev pub withLevels : Block → List ℤ → Block
-withLevels b x = blockOf (b .shape) (b .settings) (b .bias) (b .scale) (b .scan) (b .source) (b .inverse) x
 
 -- the levels with window position i settled
 unfoldable pub settledAt : Window → Book → Block → ℕ → List ℤ

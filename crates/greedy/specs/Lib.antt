@@ -1,4 +1,3 @@
--- The greedy search: `Greedy` the search and its outcome, `Choice` what its levels are, `Reading` what its parts go by.
+-- The greedy search: `Greedy` the search and its outcome, `Reading` what its parts go by.
 pub mod Greedy
-pub mod Choice
 pub mod Reading

@@ -20,11 +20,11 @@ use Rattle.costs.proofs.Sum.{finite-terms}
 use Rattle.costs.proofs.Bound.{capped-cost, add-capped, add-finite}
 use Rattle.least_cost.specs.Position.{Position, Tail, nz, within, allowed}
 use Rattle.least_cost.specs.Choice.{Choice, done, takes, remaining, inBand, costOf, hasInfinite}
-use Rattle.least_cost.specs.Search.{Problem, countOf, wholeCost, wholeInfinite, leastTotal}
+use Rattle.least_cost.specs.Search.{Problem, countOf, wholeCost, wholeInfinite, leastTotal, Banded}
 use Rattle.least_cost.proofs.Trial.{nz-le}
 use Rattle.least_cost.proofs.Best.{AllPriced, band-allowed}
 use Rattle.least_cost.proofs.Counts.{Between}
-use Rattle.least_cost.proofs.Whole.{Banded, Sound, whole-cost, whole-infinite}
+use Rattle.least_cost.proofs.Whole.{Sound, whole-cost, whole-infinite}
 
 -- ---- room for m terms of at most 2 ^ j
 pub record Room (j m : ℕ) : Type 0 where

@@ -10,13 +10,13 @@ use lib.Ieee.{Float, inf, le, lt}
 use lib.Ieee.Scale.{finite}
 use Rattle.least_cost.specs.Position.{Position, Tail, nz}
 use Rattle.least_cost.specs.Choice.{Choice, remaining, inBand, costOf}
-use Rattle.least_cost.specs.Search.{Problem, trial, step, best, pick, walk, wholeCost, wholeInfinite, leastTotal}
+use Rattle.least_cost.specs.Search.{Problem, trial, step, best, pick, walk, wholeCost, wholeInfinite, leastTotal, Banded}
 use Rattle.least_cost.proofs.First.{Found}
 use Rattle.least_cost.proofs.Trial.{nonzero-before}
 use Rattle.least_cost.proofs.Best as Best
 use Rattle.least_cost.proofs.Best.{AllPriced, Walked}
 use Rattle.least_cost.proofs.Whole as Whole
-use Rattle.least_cost.proofs.Whole.{Sound, Banded, Answer}
+use Rattle.least_cost.proofs.Whole.{Sound, Answer}
 use Rattle.least_cost.proofs.Infinite.{Capped, none-finite}
 
 module _ (w : Problem) (S : Sound w) where

@@ -13,16 +13,11 @@ use Rattle.costs.specs.Cost.{cost}
 use Rattle.costs.proofs.View.{at-inf, viewed}
 use Rattle.costs.proofs.Order as Order
 use Rattle.costs.proofs.Sum.{add-cost, add-mono-left, finite-terms}
-use Rattle.least_cost.specs.Choice.{Choice, inBand, costOf}
-use Rattle.least_cost.specs.Search.{Problem, best, countOf, wholeCost, total, upFrom, leastTotal, leastCount, leastLevels}
+use Rattle.least_cost.specs.Choice.{costOf}
+use Rattle.least_cost.specs.Search.{Problem, Banded, best, countOf, wholeCost, total, upFrom, leastTotal, leastCount, leastLevels}
 use Rattle.least_cost.proofs.First.{Found, found-mem, finite-found, least-cost, least-le}
 use Rattle.least_cost.proofs.Best.{AllPriced, Walked, best-costs, choice-cost, walked, none-less}
 use Rattle.least_cost.proofs.Counts.{Between, tried-between, between-tried, smaller-before}
-
--- a choice of the problem, in the band
-pub record Banded (w : Problem) (cs : List ℤ) : Type 0 where
-  pub choice : Choice (w .positions) cs
-  pub band : T (inBand (w .tail .count) (w .positions) cs)
 
 -- what is asked of a problem: every price is a cost, and the counts that are tried leave no choice in the band out
 pub record Sound (w : Problem) : Type 0 where

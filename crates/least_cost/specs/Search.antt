@@ -3,11 +3,11 @@ use Prim.Native.Nat.{ℕ, zero, suc, _-_}
 use mathlib.Core.Bool.{Bool, false, not, _||_, cond}
 use mathlib.Core.List.{List, [], _∷_, _++_}
 use lib.IntN.{ℤ, pos}
-use lib.Dec.{eqb}
+use lib.Dec.{T, eqb}
 use lib.Ieee.{Float, inf, binary32, add, lt}
 use lib.Ieee.Scale.{finite}
 use Rattle.least_cost.specs.Position.{Position, Tail, nz, allowed}
-use Rattle.least_cost.specs.Choice.{remaining, costOf, hasInfinite}
+use Rattle.least_cost.specs.Choice.{Choice, remaining, inBand, costOf, hasInfinite}
 
 -- ---- The first least: a list is gone through in order, from a start value v, and only what is below the best so far takes its place.
 -- The value that stands at the end, and the element that it is of (d where nothing was below v).
@@ -59,6 +59,11 @@ pub record Problem : Type 0 where
   pub countCost : ℕ → Float
   pub fewest : ℕ
   pub width : ℕ
+
+-- a choice of the problem, in the band
+pub record Banded (w : Problem) (cs : List ℤ) : Type 0 where
+  pub choice : Choice (w .positions) cs
+  pub band : T (inBand (w .tail .count) (w .positions) cs)
 
 -- a choice's whole count, and its whole cost: with what the count costs
 unfoldable pub countOf : Problem → List ℤ → ℕ

@@ -9,19 +9,18 @@ use lib.Dec.{T, leb, le→leb, ltb}
 use lib.IntN.{ℤ, pos}
 use lib.ListN.{length, getD}
 use lib.Ieee.Fits.{and-i}
-use Rattle.block.specs.Block.{Block, covered, inputAt, nonzerosAmong, inputRemaining, ideal, candidatesAt}
+use Rattle.block.specs.Block.{Block, covered, inputAt, nonzerosAmong, inputRemaining, ideal, candidatesAt, inputFrom}
 use Rattle.block.specs.Band.{inputAfter, positionAt, positionsFrom, pastWindow, tailOf, problemOf}
 use Rattle.block_checks.specs.Passed.{Passed}
 use Rattle.candidates.proofs.Laws.{candidates-listed}
 use Rattle.least_cost.specs.Position.{nz, within}
 use Rattle.least_cost.specs.Choice.{Choice, done, takes, remaining, inBand}
-use Rattle.least_cost.specs.Search.{countOf}
+use Rattle.least_cost.specs.Search.{countOf, Banded}
 use Rattle.least_cost.proofs.Trial.{nz-le}
-use Rattle.least_cost.proofs.Whole.{Banded}
 use Rattle.prices.specs.Book.{Book}
 use Rattle.prices.specs.Checks.{bookRefusal}
 use Rattle.weights.specs.declared.Window.{Window}
-use Rattle.problem.specs.Tokens.{inputFrom, pastLength, nonzerosOf}
+use Rattle.problem.specs.Tokens.{pastLength, nonzerosOf}
 use Rattle.problem.proofs.Tokens.{past-nonzeros, joined}
 use Rattle.problem.proofs.Problem.{first-near}
 
@@ -41,7 +40,7 @@ stretches b k (suc n) m =
 
 -- the input's count from scan position k on, window and tail
 module _ (v : Window) (b : Block) (fits : covered b + v .length ≤ 64 * covered b) where
-  input-count : (k n : ℕ) → k + n ≡ covered b + v .length → remaining (pastWindow v b) (inputFrom b k n) ≡ inputRemaining b k
+  pub input-count : (k n : ℕ) → k + n ≡ covered b + v .length → remaining (pastWindow v b) (inputFrom b k n) ≡ inputRemaining b k
   unfolding pastWindow inputRemaining pastLength
   input-count k n e =
       let c : ℕ = covered b in

@@ -4,4 +4,6 @@ pub mod Local
 pub mod Problem
 pub mod Tokens
 pub mod Input
+pub mod Refusals
+pub mod Written
 pub mod Main

@@ -11,14 +11,14 @@ use lib.Ieee.{inf, le}
 use lib.Ieee.Scale.{finite}
 use Rattle.ac_context.specs.Contexts.{fineZeroDensityContextsOffset, zeroDensityContext}
 use Rattle.bias.specs.Level.{isLevel}
-use Rattle.block.specs.Block.{Block, covered, contextOf, inputRemaining}
+use Rattle.block.specs.Block.{Block, covered, contextOf, inputRemaining, inputFrom}
 use Rattle.block.specs.Cost.{tokenPrice}
 use Rattle.block.specs.Checks.{blockRefusal}
 use Rattle.block.specs.Band.{problemOf, halfWidth}
 use Rattle.block_checks.specs.Passed.{Passed}
 use Rattle.block_checks.proofs.Laws.{passed}
-use Rattle.least_cost.specs.Search.{countOf, wholeCost, leastTotal}
-use Rattle.least_cost.proofs.Whole.{Banded, Answer}
+use Rattle.least_cost.specs.Search.{countOf, wholeCost, leastTotal, Banded}
+use Rattle.least_cost.proofs.Whole.{Answer}
 use Rattle.least_cost.proofs.Main as Least
 use Rattle.packing.specs.Signed.{packSigned}
 use Rattle.prices.specs.Book.{Book}
@@ -26,7 +26,7 @@ use Rattle.prices.specs.Checks.{bookRefusal}
 use Rattle.prices.proofs.Costs.{symbolPriceOf}
 use Rattle.weights.specs.Window.{windowOf}
 use Rattle.weights.specs.declared.Window.{Window}
-use Rattle.problem.specs.Tokens.{inputFrom, pastLength, needsInfinite}
+use Rattle.problem.specs.Tokens.{pastLength, needsInfinite}
 use Rattle.problem.proofs.Terms.{price-infinite}
 use Rattle.problem.proofs.Local.{packed-value}
 use Rattle.problem.proofs.Problem.{sound, capped-problem}

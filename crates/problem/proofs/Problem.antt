@@ -18,12 +18,12 @@ use Rattle.costs.specs.Cost.{bounded, capped}
 use Rattle.costs.proofs.Bound.{capped-cost, capped-more, add-capped}
 use Rattle.least_cost.specs.Position.{nz}
 use Rattle.least_cost.specs.Choice.{remaining, inBand}
-use Rattle.least_cost.specs.Search.{countOf}
+use Rattle.least_cost.specs.Search.{countOf, Banded}
 use Rattle.least_cost.proofs.Trial.{nz-le}
 use Rattle.least_cost.proofs.Best.{AllPriced}
 use Rattle.least_cost.proofs.Counts.{Between}
 use Rattle.least_cost.proofs.Range.{Reach, choice-reach, choice-near}
-use Rattle.least_cost.proofs.Whole.{Banded, Sound}
+use Rattle.least_cost.proofs.Whole.{Sound}
 use Rattle.least_cost.proofs.Infinite.{Room, OneCapped, AllCapped, none-capped, more-capped, capped-priced, Capped}
 use Rattle.prices.specs.Book.{Book}
 use Rattle.prices.specs.Checks.{bookRefusal}

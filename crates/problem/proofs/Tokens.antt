@@ -11,7 +11,7 @@ use lib.IntN.{ℤ, pos}
 use lib.Ieee.{Float, inf, fin, eq, binary32, add, mul}
 use lib.Ieee.Scale.{finite}
 use Rattle.ac_context.specs.Contexts.{fineNonZeroContext}
-use Rattle.block.specs.Block.{Block, covered, contextOf, inputAt, nonzerosAmong, inputRemaining}
+use Rattle.block.specs.Block.{Block, covered, contextOf, inputAt, nonzerosAmong, inputRemaining, inputFrom}
 use Rattle.block.specs.Cost.{tokenPrice, localCost, tokensFrom, tailCost, firstPrev, countCost}
 use Rattle.block.specs.Band.{positionAt, positionsFrom, pastWindow, tailOf, problemOf}
 use Rattle.block_checks.specs.Passed.{Passed}
@@ -22,12 +22,11 @@ use Rattle.costs.proofs.Sum.{finite-terms}
 use Rattle.costs.proofs.Bound.{capped-cost, add-finite}
 use Rattle.least_cost.specs.Position.{Position, nz}
 use Rattle.least_cost.specs.Choice.{Choice, done, takes, remaining, hasInfinite}
-use Rattle.least_cost.specs.Search.{countOf, wholeInfinite}
-use Rattle.least_cost.proofs.Whole.{Banded}
+use Rattle.least_cost.specs.Search.{countOf, wholeInfinite, Banded}
 use Rattle.prices.specs.Book.{Book, price}
 use Rattle.prices.specs.Checks.{bookRefusal}
 use Rattle.weights.specs.declared.Window.{Window}
-use Rattle.problem.specs.Tokens.{inputFrom, pastLength, chosenLevels, nonzerosOf, levelTokens, tokensOf, someInfinite, needsInfinite}
+use Rattle.problem.specs.Tokens.{pastLength, chosenLevels, nonzerosOf, levelTokens, tokensOf, someInfinite, needsInfinite}
 use Rattle.problem.proofs.Terms.{price-capped}
 use Rattle.problem.proofs.Local.{candidates-level, token-capped, local-finite, lambda-capped, lambda-finite}
 use Rattle.problem.proofs.Problem.{room, zero-capped, input-token, sum-capped, count-small}

@@ -1,23 +1,18 @@
 -- The tokens of a choice, by their prices (document 01, "The steps they share"): the whole count in its context, then each packed level from scan position c on until
 -- nothing remains.
-use Prim.Native.Nat.{ℕ, zero, suc, _+_, _-_, _*_}
+use Prim.Native.Nat.{ℕ, suc, _+_, _-_, _*_}
 use mathlib.Core.Bool.{Bool, false, cond, _||_}
 use mathlib.Core.List.{List, [], _∷_, _++_}
 use lib.Dec.{eqb}
 use lib.IntN.{ℤ}
 use lib.Ieee.{Float, inf, eq}
 use Rattle.ac_context.specs.Contexts.{fineNonZeroContext}
-use Rattle.block.specs.Block.{Block, covered, contextOf, inputAt}
+use Rattle.block.specs.Block.{Block, covered, contextOf, inputFrom}
 use Rattle.block.specs.Cost.{tokenPrice, firstPrev}
 use Rattle.least_cost.specs.Position.{nz}
 use Rattle.least_cost.specs.Choice.{remaining}
 use Rattle.prices.specs.Book.{Book, price}
 use Rattle.weights.specs.declared.Window.{Window}
-
--- n of the input's levels, from scan position k on
-unfoldable pub inputFrom : Block → ℕ → ℕ → List ℤ
-inputFrom b k zero = []
-inputFrom b k (suc n) = inputAt b k ∷ inputFrom b (suc k) n
 
 -- how many scan positions lie past the window
 unfoldable pub pastLength : Window → Block → ℕ

@@ -8,7 +8,7 @@ ghost use mathlib.Core.Path.{_≡_};
 ghost use mathlib.Core.Bool.{true, false};
 ghost use Prim.Native.Nat.{_+_, _-_, _*_, _<_, _≤_};
 ghost use lib.Dec.{T, eqb};
-ghost use lib.ListN.{length, getD};
+ghost use lib.ListN.{length, getD, set};
 ghost use lib.IntN.{natAbs};
 ghost use Rattle.ac_context.specs.Contexts.{Coefficient, Covered};
 ghost use Rattle.bias.specs.Level.{isLevel};
@@ -57,6 +57,14 @@ pub fn level_at(scan: &[u32], levels: &[i32], k: usize) -> i32
 {
     let at = scan[k] as usize;
     levels[at]
+}
+
+pub fn write_level(scan: &[u32], levels: &mut [i32], k: usize, level: i32)
+    requires { ⌜ k < length (now scan) ⌝ }
+    requires { ⌜ getD (now scan) k 0 < length (now levels) ⌝ }
+    ensures { λ _. ⌜ now (levels .exit) ≡ set (now (levels .entry)) (getD (now (scan .entry)) k 0) level ⌝ }
+{
+    levels[scan[k] as usize] = level;
 }
 
 impl Place {

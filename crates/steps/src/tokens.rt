@@ -1,9 +1,9 @@
 // Tokens that no choice changes: the count's, and those past the window.
 use crate::reading::Plan;
 ghost use mathlib.Core.Path.{_≡_};
-ghost use mathlib.Core.Bool.{false};
-ghost use Prim.Native.Nat.{_+_, _-_, _*_, _<_, _≤_};
-ghost use lib.Dec.{T};
+ghost use mathlib.Core.Bool.{false, cond};
+ghost use Prim.Native.Nat.{_+_, _-_, _*_, _/_, _<_, _≤_};
+ghost use lib.Dec.{T, leb};
 ghost use lib.IntN.{pos};
 ghost use lib.ListN.{length};
 ghost use lib.Ieee.{fin, mul, binary32};
@@ -54,6 +54,14 @@ fn token_cost(
         + ac_context::zero_density_context(remaining, k, plan.covered, plan.log2, prev);
     let value = packing::pack_signed(level);
     plan.lambda * prices::token_bits(clusters, map, configs, symbols, ready, context, value)
+}
+
+// `prev` at the first position.
+pub fn first_prev(covered: usize, count: usize) -> usize
+    requires { ⌜ covered ≤ 1024 ⌝ }
+    ensures { λ r. ⌜ r ≡ cond (leb count (64 * covered / 16)) 1 0 ⌝ }
+{
+    if count <= 64 * covered / 16 { 1 } else { 0 }
 }
 
 // lambda times the price of the count.

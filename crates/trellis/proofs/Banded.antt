@@ -11,7 +11,7 @@ use lib.ListN.{length, replicate}
 use lib.Ieee.{Float, inf}
 use Rattle.block.specs.Band.{halfWidth}
 use Rattle.block.specs.Block.{Block, covered}
-use Rattle.block.specs.Checks.{blockRefusal, searchRefusal, states, trellisRoom}
+use Rattle.block.specs.Checks.{blockRefusal, states, trellisRoom}
 use Rattle.block.specs.Outcome.{Lent, Result, cleared, refused}
 use Rattle.block.specs.declared.Answer.{Answer}
 use Rattle.block.specs.declared.Answer.the-variants.{Refused}
@@ -24,7 +24,7 @@ use Rattle.steps.specs.declared.reading.Plan.{Plan}
 use Rattle.weights.specs.declared.Window.{Window}
 use Rattle.weights.specs.Window.{windowOf}
 use Rattle.trellis.specs.Rows.{windowLength, Checked, FoundIn, Done}
-use Rattle.trellis.specs.Outcome.{answered, written, bandedOutcome, lentOf, resultOf}
+use Rattle.trellis.specs.Outcome.{answered, written, refusal, bandedOutcome, lentOf, resultOf}
 use Rattle.trellis.specs.declared.search.Found.{Found}
 
 -- what check 14 lets pass
@@ -54,19 +54,22 @@ pub checked-of : {book : Book} {b : Block} {p : Plan} → bookRefusal book ≡ 0
 checked-of ok passes w k = record { book-passed = ok; block-passed = passes; planned = w; coded = k }
 
 module _ (book : Book) (b : Block) (l : Lent) where
-  refused-banded : {n : ℕ} → n ≡ searchRefusal book b (trellisRoom halfWidth (windowLength b) (length (l .choices)) (length (l .rowA)) (length (l .rowB))) → (n ≡ 0 → ⊥) → refused n l ≡ bandedOutcome book b l
+  refused-banded : {n : ℕ} → n ≡ refusal book b l → (n ≡ 0 → ⊥) → refused n l ≡ bandedOutcome book b l
   unfolding bandedOutcome
   refused-banded e some = rw (ne-eqb _ 0 (λ z. some (e ∙ z))) (ap (λ (m : ℕ). refused m l) e)
 
   pub by-book : {n : ℕ} → n ≡ bookRefusal book → (n ≡ 0 → ⊥) → refused n l ≡ bandedOutcome book b l
+  unfolding refusal
   by-book e some = refused-banded (e ∙ sym (refused-book book b _ (λ z. some (e ∙ z)))) some
 
   module _ (ok : bookRefusal book ≡ 0) where
     pub by-block : {n : ℕ} → n ≡ blockRefusal (windowOf (covered b)) b 0 → (n ≡ 0 → ⊥) → refused n l ≡ bandedOutcome book b l
+    unfolding refusal
     by-block e some = refused-banded (e ∙ sym (refused-block book b _ ok (λ z. some (e ∙ z)))) some
 
     module _ (passes : blockRefusal (windowOf (covered b)) b 0 ≡ 0) where
-      number-is : searchRefusal book b (trellisRoom halfWidth (windowLength b) (length (l .choices)) (length (l .rowA)) (length (l .rowB))) ≡ cond (trellisRoom halfWidth (windowLength b) (length (l .choices)) (length (l .rowA)) (length (l .rowB))) 0 14
+      number-is : refusal book b l ≡ cond (trellisRoom halfWidth (windowLength b) (length (l .choices)) (length (l .rowA)) (length (l .rowB))) 0 14
+      unfolding refusal
       number-is = refused-room book b _ ok passes
 
       pub by-room : trellisRoom halfWidth (windowLength b) (length (l .choices)) (length (l .rowA)) (length (l .rowB)) ≡ false → refused 14 l ≡ bandedOutcome book b l

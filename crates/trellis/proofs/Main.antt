@@ -17,8 +17,8 @@ use Rattle.block.specs.declared.Answer.the-variants.{Cost, Refused}
 use Rattle.block_checks.proofs.Laws.{passed}
 use Rattle.costs.specs.Cost.{cost}
 use Rattle.costs.proofs.Order.{infinite}
-use Rattle.least_cost.specs.Search.{leastTotal, leastCount}
-use Rattle.least_cost.proofs.Whole.{Banded, leastTotal-cost}
+use Rattle.least_cost.specs.Search.{leastTotal, leastCount, Banded}
+use Rattle.least_cost.proofs.Whole.{leastTotal-cost}
 use Rattle.least_cost.proofs.Whole as Whole
 use Rattle.prices.specs.Book.{Book}
 use Rattle.prices.specs.Checks.{bookRefusal}

@@ -30,13 +30,16 @@ written book b =
     let p = problem book b in
     cond (finite (leastTotal p)) (put (b .scan) (leastLevels p) (covered b) (windowLength b) (b .levels)) (b .levels)
 
+-- the first of checks 1 to 14 that refuses; 0 where none does
+unfoldable pub refusal : Book → Block → Lent → ℕ
+refusal book b l = searchRefusal book b (trellisRoom halfWidth (windowLength b) (length (l .choices)) (length (l .rowA)) (length (l .rowB)))
+
 -- Refused by a check of 1 to 14, nothing changes; else the room is cleared. The lent levels are the block's.
 unfoldable pub bandedOutcome : Book → Block → Lent → Result
 bandedOutcome book b l =
-    let number = searchRefusal book b (trellisRoom halfWidth (windowLength b) (length (l .choices)) (length (l .rowA)) (length (l .rowB))) in
-    cond (eqb number 0)
+    cond (eqb (refusal book b l) 0)
     (record { answer = answered book b; lent = cleared (record { levels = written book b; choices = l .choices; rowA = l .rowA; rowB = l .rowB }) })
-    (refused number l)
+    (refused (refusal book b l) l)
 
 -- the arguments of a call as what is lent
 abbrev pub lentOf : List ℤ → List ℕ → List Float → List Float → Lent

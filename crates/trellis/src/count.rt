@@ -31,14 +31,6 @@ impl Best {
     }
 }
 
-// `prev` at the first position.
-pub(crate) fn first_prev(covered: usize, count: usize) -> usize
-    requires { ⌜ covered ≤ 1024 ⌝ }
-    ensures { λ r. ⌜ r ≡ cond (leb count (64 * covered / 16)) 1 0 ⌝ }
-{
-    if count <= 64 * covered / 16 { 1 } else { 0 }
-}
-
 // The least cost with count `n`.
 fn total_of(
     clusters: u32,
@@ -66,7 +58,7 @@ fn total_of(
     requires { ⌜ (counts .least ≤ n) × (n ≤ counts .most) ⌝ }
     ensures { λ r. ⌜ r ≡ total (problem (bookOf clusters (now (map .entry)) (now (configs .entry)) (now (symbols .entry)) (now (ready .entry))) (blockOf shape settings bias scale (now (scan .entry)) (now (source .entry)) (now («inv_qm» .entry)) (now (levels .entry)))) n ⌝ }
 {
-    let prev = first_prev(plan.covered, n);
+    let prev = steps::tokens::first_prev(plan.covered, n);
     let at = 2 * (n - counts.least) + prev;
     live[at] + steps::tokens::count_cost(clusters, map, configs, symbols, ready, plan, n)
 }

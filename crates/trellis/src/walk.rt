@@ -1,5 +1,4 @@
 // The walk from the first position on: the levels that the choices name, written through the scan.
-use crate::count;
 use crate::position;
 use steps::reading::Plan;
 ghost use mathlib.Core.Path.{_≡_};
@@ -16,14 +15,6 @@ fn choice_at(choices: &[u8], i: usize, least: usize, left: usize, prev: usize) -
     ensures { λ r. ⌜ r ≡ getD (now (choices .entry)) (28 * i + (2 * (left - least) + prev)) 0 ⌝ }
 {
     choices[position::BAND_STRIDE * i + (2 * (left - least) + prev)] as usize
-}
-
-fn write_level(scan: &[u32], levels: &mut [i32], k: usize, level: i32)
-    requires { ⌜ k < length (now scan) ⌝ }
-    requires { ⌜ getD (now scan) k 0 < length (now levels) ⌝ }
-    ensures { λ _. ⌜ now (levels .exit) ≡ set (now (levels .entry)) (getD (now (scan .entry)) k 0) level ⌝ }
-{
-    levels[scan[k] as usize] = level;
 }
 
 // `nonzeros` counts the input's from the first position on, `count` those that the walk leaves.
@@ -43,7 +34,7 @@ pub(crate) fn write_levels(
 {
     let window = plan.window;
     let covered = plan.covered;
-    let mut prev = count::first_prev(covered, count);
+    let mut prev = steps::tokens::first_prev(covered, count);
     let mut left = count;
     let mut after = nonzeros;
     for i in 0..window.length {
@@ -52,7 +43,7 @@ pub(crate) fn write_levels(
         let least = position::least_count(past, after);
         let candidates = spot.candidates;
         let level = candidates.levels[choice_at(choices, i, least, left, prev)];
-        write_level(scan, levels, covered + i, level);
+        steps::write_level(scan, levels, covered + i, level);
         prev = steps::nonzero(level);
         left -= prev;
     }

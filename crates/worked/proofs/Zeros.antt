@@ -13,14 +13,14 @@ use lib.Ieee.Scale.{finite}
 use lib.Ieee.{Float, le, eq, lt, sub, add, mul, div, neg, ofInt, size, ofBits, toBits, fits, binary32}
 use Rattle.ac_context.specs.Contexts.{isPowerBelow, strategyOrder, blockContextMap, channelRow, blockContext, fineBlockContext, nonZeroBucket, fineNonZeroContext, fineZeroDensityContextsOffset, coeffFreqContext, coeffNumNonzeroContext, zeroDensityContext}
 use Rattle.bias.specs.Level.{numerator0145, corrected, levelOf, biased, validBias}
-use Rattle.block.specs.Block.{covered, contextOf, inputAt, nonzerosAmong, inputRemaining, idealAt, ideal, candidatesAt}
+use Rattle.block.specs.Block.{covered, contextOf, inputAt, nonzerosAmong, inputRemaining, idealAt, ideal, candidatesAt, inputFrom}
 use Rattle.block.specs.Cost.{distortionOf, distortion, rate, tokenPrice, localCost, tokensFrom, tailCost, firstPrev, countCost}
 use Rattle.block.specs.Band.{inputAfter, positionAt, positionsFrom, pastWindow, tailOf, fewestCount, mostCount, problemOf, halfWidth}
 use Rattle.candidates.specs.Candidates.{without, dropRepeats, abs, settled, keptOf, restoredOf, candidatesOf}
 use Rattle.candidates.specs.Nearest.{nearestOf, isIdeal}
 use Rattle.least_cost.specs.Choice.{remaining, costOf}
 use Rattle.least_cost.specs.Position.{nz, within, allowed}
-use Rattle.least_cost.specs.Search.{Problem, countOf, wholeCost, least, holder, nonzeros, hasZero, trial, step, best, pick, walk, total, upFrom, leastTotal, leastCount, leastLevels}
+use Rattle.least_cost.specs.Search.{Problem, countOf, wholeCost, least, holder, nonzeros, hasZero, trial, step, best, pick, walk, total, upFrom, leastTotal, leastCount, leastLevels, Banded}
 use Rattle.packing.specs.Hybrid.{topBit, symbolOf, extraBitsOf, validConfig}
 use Rattle.packing.specs.Signed.{packSigned}
 use Rattle.prices.specs.Book.{Book, clusterSymbol, clusterExtra, clusterPrice, price, clusterValid}
@@ -36,11 +36,11 @@ use Rattle.block_checks.proofs.Laws.{passed}
 use Rattle.costs.specs.Cost.{cost}
 use Rattle.costs.proofs.Order.{le-finite, lt→not-le, le-antisymm}
 use Rattle.costs.proofs.Sum.{add-comm-cost, add-inf, le-add}
-use Rattle.least_cost.proofs.Whole.{Sound, Banded, Answer, leastTotal-cost, whole-infinite}
+use Rattle.least_cost.proofs.Whole.{Sound, Answer, leastTotal-cost, whole-infinite}
 use Rattle.least_cost.proofs.Best.{choice-cost}
 use Rattle.problem.proofs.Problem.{sound}
 use Rattle.problem.proofs.Main as Least
-use Rattle.problem.specs.Tokens.{inputFrom, needsInfinite}
+use Rattle.problem.specs.Tokens.{needsInfinite}
 use Rattle.weights.specs.Window.{windowOf}
 use Rattle.worked.specs.Cases.{whole, never, checked, zeros, blockWith}
 

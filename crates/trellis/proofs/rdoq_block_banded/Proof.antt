@@ -1,7 +1,8 @@
-use mathlib.Core.Path.{_≡_, sym, _∙_}
+use mathlib.Core.Path.{_≡_, refl, sym, _∙_}
 use Rattle.block_checks.proofs.Laws.{passed}
 use Rattle.steps.proofs.Plans.{planned-lists}
 use Rattle.trellis.proofs.Banded.{rooms, room-is, checked-of, longer, untrue, unfalse, by-book, by-block, by-room, accepted, done-of, done-answer}
+use Rattle.trellis.proofs.Demand.{demanded}
 use borrow.Author.Needs.{needs}
 use Rattle.trellis.proofs.rdoq_block_banded.Statement.{statement}
 use Rattle.trellis.proofs.rdoq_block_banded.Tie as tie
@@ -11,8 +12,8 @@ use Rattle.block_checks.proofs.check_block.Reads as check-block-reads
 use Rattle.block_checks.proofs.trellis_room.Reads as trellis-room-reads
 use Rattle.book_checks.proofs.check_book.Reads as check-book-reads
 use Rattle.steps.proofs.reading.plan_of.Reads as plan-of-reads
-use Rattle.trellis.proofs.clear.clear_choices.Reads as clear-choices-reads
-use Rattle.trellis.proofs.clear.clear_row.Reads as clear-row-reads
+use Rattle.rooms.proofs.clear_choices.Reads as clear-choices-reads
+use Rattle.rooms.proofs.clear_row.Reads as clear-row-reads
 use Rattle.trellis.proofs.search.search.Reads as search-reads
 use Rattle.trellis.proofs.search.write_found.Reads as write-found-reads
 
@@ -20,7 +21,7 @@ check-book-requires : tie.Need-check-book-requires
 check-book-requires c κs = search needs
 
 returns : tie.Need-returns
-returns c = by-book _ _ _ (c .before .check-book .ensures) (c .if1 .taken)
+returns c = demanded _ _ _ refl (by-book _ _ _ (c .before .check-book .ensures) (c .if1 .taken))
 
 check-block-requires : tie.Need-check-block-requires
 check-block-requires c κs = search needs
@@ -29,7 +30,7 @@ same-length : tie.Need-same-length
 same-length c = search needs
 
 returns-2 : tie.Need-returns-2
-returns-2 c = by-block _ _ _ (sym (c .before .before .before .before .check-book .ensures) ∙ c .before .before .before .if1 .left) (c .before .check-block .ensures) (c .if2 .taken)
+returns-2 c = demanded _ _ _ refl (by-block _ _ _ (sym (c .before .before .before .before .check-book .ensures) ∙ c .before .before .before .if1 .left) (c .before .check-block .ensures) (c .if2 .taken))
 
 plan-of-requires : tie.Need-plan-of-requires
 plan-of-requires c κs =
@@ -45,7 +46,7 @@ same-length-2 c = search needs
 returns-3 : tie.Need-returns-3
 returns-3 c =
     let planned = planned-lists _ (c .before .before .before .plan-of .ensures .0) _ _ _ _ in
-    by-room _ _ _ (sym (c .before .before .before .before .before .before .before .before .check-book .ensures) ∙ c .before .before .before .before .before .before .before .if1 .left) (sym (c .before .before .before .before .before .check-block .ensures) ∙ c .before .before .before .before .if2 .left) (sym (room-is _ _ _ planned (c .before .trellis-room .ensures)) ∙ untrue _ (c .if3 .taken))
+    demanded _ _ _ refl (by-room _ _ _ (sym (c .before .before .before .before .before .before .before .before .check-book .ensures) ∙ c .before .before .before .before .before .before .before .if1 .left) (sym (c .before .before .before .before .before .check-block .ensures) ∙ c .before .before .before .before .if2 .left) (sym (room-is _ _ _ planned (c .before .trellis-room .ensures)) ∙ untrue _ (c .if3 .taken)))
 
 search-requires : tie.Need-search-requires
 search-requires c κs =
@@ -89,7 +90,7 @@ returns-4 c =
     let room = rooms _ _ _ _ here in
     let kept = c .before .before .before .before .before .before .before .before .before .before .before .before .before .before .before .before .before .before .before .before .before .before .search .ensures .0 in
     let done = done-answer K (c .before .before .before .before .before .before .before .before .before .before .before .before .before .before .before .before .before .before .before .before .before .before .search .ensures .1) (longer (kept .choices) (room .1 .1)) (c .before .before .before .before .before .before .before .before .before .before .before .before .before .write-found .ensures) in
-    accepted _ _ _ (sym (c .before .before .before .before .before .before .before .before .before .before .before .before .before .before .before .before .before .before .before .before .before .before .before .before .before .before .before .before .before .before .before .before .before .before .before .check-book .ensures) ∙ c .before .before .before .before .before .before .before .before .before .before .before .before .before .before .before .before .before .before .before .before .before .before .before .before .before .before .before .before .before .before .before .before .before .before .if1 .left) (sym (c .before .before .before .before .before .before .before .before .before .before .before .before .before .before .before .before .before .before .before .before .before .before .before .before .before .before .before .before .before .before .before .before .check-block .ensures) ∙ c .before .before .before .before .before .before .before .before .before .before .before .before .before .before .before .before .before .before .before .before .before .before .before .before .before .before .before .before .before .before .before .if2 .left) here (done .0) (done .1) (c .before .before .before .before .before .before .before .before .before .before .clear-choices .ensures) (kept .choices) (c .before .before .before .before .before .before .clear-row .ensures) (kept .first) (c .before .before .clear-row2 .ensures) (kept .second)
+    demanded _ _ _ refl (accepted _ _ _ (sym (c .before .before .before .before .before .before .before .before .before .before .before .before .before .before .before .before .before .before .before .before .before .before .before .before .before .before .before .before .before .before .before .before .before .before .before .check-book .ensures) ∙ c .before .before .before .before .before .before .before .before .before .before .before .before .before .before .before .before .before .before .before .before .before .before .before .before .before .before .before .before .before .before .before .before .before .before .if1 .left) (sym (c .before .before .before .before .before .before .before .before .before .before .before .before .before .before .before .before .before .before .before .before .before .before .before .before .before .before .before .before .before .before .before .before .check-block .ensures) ∙ c .before .before .before .before .before .before .before .before .before .before .before .before .before .before .before .before .before .before .before .before .before .before .before .before .before .before .before .before .before .before .before .if2 .left) here (done .0) (done .1) (c .before .before .before .before .before .before .before .before .before .before .clear-choices .ensures) (kept .choices) (c .before .before .before .before .before .before .clear-row .ensures) (kept .first) (c .before .before .clear-row2 .ensures) (kept .second))
 
 pub rdoq-block-banded-spec : {M : Type 1} → statement M
 rdoq-block-banded-spec =

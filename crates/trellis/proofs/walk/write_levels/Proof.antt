@@ -15,10 +15,10 @@ use Rattle.trellis.proofs.walk.write_levels.Reads as reads
 use Rattle.trellis.proofs.walk.write_levels.Lts as lts
 use Rattle.steps.proofs.nonzero.Reads as nonzero-reads
 use Rattle.steps.proofs.reading.Plan.spot.Reads as spot-reads
-use Rattle.trellis.proofs.count.first_prev.Reads as first-prev-reads
+use Rattle.steps.proofs.tokens.first_prev.Reads as first-prev-reads
 use Rattle.trellis.proofs.position.least_count.Reads as least-count-reads
 use Rattle.trellis.proofs.walk.choice_at.Reads as choice-at-reads
-use Rattle.trellis.proofs.walk.write_level.Reads as write-level-reads
+use Rattle.steps.proofs.write_level.Reads as write-level-reads
 
 abbrev Inv-loop : tie.InvT-loop
 Inv-loop scan source inv-qm levels₀ plan past nonzeros choices count covered prev₀ left₀ after₀ i₀ i-end levels prev left after i =

@@ -6,12 +6,12 @@ use native.Mathlib.Numerals.{add-one-le}
 use native.Mathlib.Omega.{arith}
 use lib.ListN.{length, set, drop, replicate, length-set}
 use lib.Ieee.{Float, inf}
-use Rattle.trellis.proofs.Fill.{fill-more, filled}
+use Rattle.rooms.proofs.Fill.{fill-more, filled}
 use borrow.Author.Needs.{needs}
-use Rattle.trellis.proofs.clear.clear_choices.Statement.{statement}
-use Rattle.trellis.proofs.clear.clear_choices.Tie as tie
-use Rattle.trellis.proofs.clear.clear_choices.Reads as reads
-use Rattle.trellis.proofs.clear.clear_choices.Lts as lts
+use Rattle.rooms.proofs.clear_choices.Statement.{statement}
+use Rattle.rooms.proofs.clear_choices.Tie as tie
+use Rattle.rooms.proofs.clear_choices.Reads as reads
+use Rattle.rooms.proofs.clear_choices.Lts as lts
 
 abbrev Inv-loop : tie.InvT-loop
 Inv-loop choices₀ i₀ i-end choices i = (i-end ≡ length choices₀) × ((i ≤ i-end) × ((choices ≡ replicate i 255 ++ drop i choices₀) × (length choices ≡ length choices₀)))

@@ -6,12 +6,12 @@ use native.Mathlib.Numerals.{add-one-le}
 use native.Mathlib.Omega.{arith}
 use lib.ListN.{length, set, drop, replicate, length-set}
 use lib.Ieee.{Float, inf}
-use Rattle.trellis.proofs.Fill.{fill-more, filled}
+use Rattle.rooms.proofs.Fill.{fill-more, filled}
 use borrow.Author.Needs.{needs}
-use Rattle.trellis.proofs.clear.clear_row.Statement.{statement}
-use Rattle.trellis.proofs.clear.clear_row.Tie as tie
-use Rattle.trellis.proofs.clear.clear_row.Reads as reads
-use Rattle.trellis.proofs.clear.clear_row.Lts as lts
+use Rattle.rooms.proofs.clear_row.Statement.{statement}
+use Rattle.rooms.proofs.clear_row.Tie as tie
+use Rattle.rooms.proofs.clear_row.Reads as reads
+use Rattle.rooms.proofs.clear_row.Lts as lts
 use Rattle.costs.proofs.infinity.Reads as infinity-reads
 
 abbrev Inv-loop : tie.InvT-loop

@@ -1,7 +1,7 @@
 use borrow.Author.Tests.{le-leb, lt-leb}
 use borrow.Author.Needs.{needs}
-use Rattle.trellis.proofs.count.first_prev.Statement.{statement}
-use Rattle.trellis.proofs.count.first_prev.Tie as tie
+use Rattle.steps.proofs.tokens.first_prev.Statement.{statement}
+use Rattle.steps.proofs.tokens.first_prev.Tie as tie
 
 mul-if1 : tie.Need-mul-if1
 mul-if1 c = search needs
