@@ -1,0 +1,43 @@
+// A record's lists, copied to where the searches take them from.
+use crate::fields::float_at;
+use crate::fields::level_at;
+use crate::fields::word_at;
+ghost use mathlib.Core.Path.{_≡_};
+ghost use Prim.Native.Nat.{_+_, _*_, _≤_};
+ghost use lib.ListN.{length};
+
+// Fills `out` with the bytes from `start` on.
+pub fn load_bytes(bytes: &[u8], start: usize, out: &mut [u8])
+    requires { ⌜ start + length (now out) ≤ length (now bytes) ⌝ }
+{
+    for i in 0..out.len() {
+        out[i] = bytes[start + i];
+    }
+}
+
+// Fills `out` with the numbers from `start` on.
+pub fn load_words(bytes: &[u8], start: usize, out: &mut [u32])
+    requires { ⌜ start + 4 * length (now out) ≤ length (now bytes) ⌝ }
+{
+    for i in 0..out.len() {
+        out[i] = word_at(bytes, start + 4 * i);
+    }
+}
+
+// Fills `out` with the floats from `start` on.
+pub fn load_floats(bytes: &[u8], start: usize, out: &mut [f32])
+    requires { ⌜ start + 4 * length (now out) ≤ length (now bytes) ⌝ }
+{
+    for i in 0..out.len() {
+        out[i] = float_at(bytes, start + 4 * i);
+    }
+}
+
+// Fills `out` with the levels from `start` on.
+pub fn load_levels(bytes: &[u8], start: usize, out: &mut [i32])
+    requires { ⌜ start + 4 * length (now out) ≤ length (now bytes) ⌝ }
+{
+    for i in 0..out.len() {
+        out[i] = level_at(bytes, start + 4 * i);
+    }
+}
