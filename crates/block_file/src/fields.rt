@@ -3,23 +3,35 @@ use bias::DequantBias;
 use block::Shape;
 use weights::Settings;
 ghost use mathlib.Core.Path.{_≡_};
-ghost use Prim.Native.Nat.{_+_, _≤_};
-ghost use lib.ListN.{length};
+ghost use Prim.Native.Nat.{_+_, _<_, _≤_};
+ghost use lib.ListN.{length, getD};
+ghost use lib.Ieee.{ofBits, binary32};
+ghost use mir.Val.{toZ};
+ghost use mir.Syntax.{w32};
 ghost use Rattle.block_file.specs.Word.{wordAt};
+
+fn byte_at(bytes: &[u8], at: usize) -> u32
+    requires { ⌜ at < length (now bytes) ⌝ }
+    ensures { λ r. ⌜ (r ≡ getD (now (bytes .entry)) at 0) × (r < 256) ⌝ }
+{
+    bytes[at] as u32
+}
 
 // The number that the four bytes from `at` on hold, the lowest byte first.
 pub fn word_at(bytes: &[u8], at: usize) -> u32
     requires { ⌜ at + 4 ≤ length (now bytes) ⌝ }
     ensures { λ r. ⌜ r ≡ wordAt (now (bytes .entry)) at ⌝ }
 {
-    (bytes[at] as u32)
-        + 256 * (bytes[at + 1] as u32)
-        + 65536 * (bytes[at + 2] as u32)
-        + 16777216 * (bytes[at + 3] as u32)
+    byte_at(bytes, at)
+        + 256 * byte_at(bytes, at + 1)
+        + 65536 * byte_at(bytes, at + 2)
+        + 16777216 * byte_at(bytes, at + 3)
 }
 
 // The float of these bits. Rattle knows one NaN and gives it no bits, so that every pattern of a NaN is read as that one.
-fn float_of(bits: u32) -> f32 {
+fn float_of(bits: u32) -> f32
+    ensures { λ r. ⌜ r ≡ ofBits binary32 bits ⌝ }
+{
     if bits % 0x8000_0000 > 0x7f80_0000 {
         let infinity = f32::from_bits(0x7f80_0000);
         return infinity - infinity;
@@ -29,20 +41,26 @@ fn float_of(bits: u32) -> f32 {
 
 pub fn float_at(bytes: &[u8], at: usize) -> f32
     requires { ⌜ at + 4 ≤ length (now bytes) ⌝ }
+    ensures { λ r. ⌜ r ≡ ofBits binary32 (wordAt (now (bytes .entry)) at) ⌝ }
 {
     float_of(word_at(bytes, at))
 }
 
-// As two's complement.
+// The level of these bits: two's complement.
+fn level_of(bits: u32) -> i32
+    ensures { λ r. ⌜ r ≡ toZ w32 bits ⌝ }
+{
+    if bits < 0x8000_0000 {
+        return bits as i32;
+    }
+    -1 - (0xffff_ffff - bits) as i32
+}
+
 pub fn level_at(bytes: &[u8], at: usize) -> i32
     requires { ⌜ at + 4 ≤ length (now bytes) ⌝ }
+    ensures { λ r. ⌜ r ≡ toZ w32 (wordAt (now (bytes .entry)) at) ⌝ }
 {
-    let word = word_at(bytes, at);
-    if word < 0x8000_0000 {
-        return word as i32;
-    }
-    let below = (0xffff_ffff - word) as i32;
-    -1 - below
+    level_of(word_at(bytes, at))
 }
 
 // A room's length, of which no more than `most` is lent.

@@ -3,6 +3,7 @@ use block::Answer;
 ghost use mathlib.Core.Path.{_≡_};
 ghost use Prim.Native.Nat.{_+_, _≤_};
 ghost use lib.ListN.{length};
+ghost use lib.IntN.{natAbs};
 
 // The room that the head of a line takes at most, and a level that changed.
 pub const HEAD_ROOM: usize = 80;
@@ -29,18 +30,21 @@ fn put_decimal(out: &mut [u8], at: usize, number: u64) -> usize
     put(out, at, &digits[..n])
 }
 
-// The eight hexadecimal digits of a cost's bits. No cost is a NaN; one would print as a pattern of its own.
+// The bits of a cost. No cost is a NaN, which has none of its own.
+fn bits_of(cost: f32) -> u32 {
+    if cost != cost {
+        return 0x7fc0_0000;
+    }
+    f32::to_bits(cost)
+}
+
+// The eight hexadecimal digits of a cost's bits.
 fn put_bits(out: &mut [u8], at: usize, cost: f32) -> usize
     requires { ⌜ at + 16 ≤ length (now out) ⌝ }
     ensures { λ r. ⌜ r ≤ at + 16 ⌝ }
 {
     let mut digits = [0u8; 16];
-    let bits = if cost != cost {
-        0x7fc0_0000
-    } else {
-        f32::to_bits(cost)
-    };
-    let n = io::hex(bits as u64, 8, &mut digits);
+    let n = io::hex(bits_of(cost) as u64, 8, &mut digits);
     put(out, at, &digits[..n])
 }
 
@@ -76,17 +80,34 @@ pub fn put_head(out: &mut [u8], at: usize, number: u64, name: &[u8], answer: Ans
     put_answer(out, after_name, answer)
 }
 
+fn magnitude(level: i32) -> u64
+    ensures { λ r. ⌜ r ≡ natAbs level ⌝ }
+{
+    if level < 0 {
+        ((-1 - level) as u64) + 1
+    } else {
+        level as u64
+    }
+}
+
+fn put_level(out: &mut [u8], at: usize, level: i32) -> usize
+    requires { ⌜ at + 21 ≤ length (now out) ⌝ }
+    ensures { λ r. ⌜ r ≤ at + 21 ⌝ }
+{
+    if level < 0 {
+        let after_sign = put(out, at, b"-");
+        return put_decimal(out, after_sign, magnitude(level));
+    }
+    put_decimal(out, at, magnitude(level))
+}
+
 // A level that changed, with its index.
 pub fn put_change(out: &mut [u8], at: usize, index: usize, level: i32) -> usize
-    requires { ⌜ at + 64 ≤ length (now out) ⌝ }
-    ensures { λ r. ⌜ r ≤ at + 64 ⌝ }
+    requires { ⌜ at + 80 ≤ length (now out) ⌝ }
+    ensures { λ r. ⌜ r ≤ at + 80 ⌝ }
 {
     let after_blank = put(out, at, b" ");
     let after_index = put_decimal(out, after_blank, index as u64);
     let after_colon = put(out, after_index, b":");
-    if level < 0 {
-        let after_sign = put(out, after_colon, b"-");
-        return put_decimal(out, after_sign, (-(level as i64)) as u64);
-    }
-    put_decimal(out, after_colon, level as u64)
+    put_level(out, after_colon, level)
 }

@@ -5,10 +5,12 @@ use crate::fields::word_at;
 ghost use mathlib.Core.Path.{_≡_};
 ghost use Prim.Native.Nat.{_+_, _*_, _≤_};
 ghost use lib.ListN.{length};
+ghost use Rattle.block_file.specs.Word.{bytesFrom, wordsFrom, floatsFrom, levelsFrom};
 
 // Fills `out` with the bytes from `start` on.
 pub fn load_bytes(bytes: &[u8], start: usize, out: &mut [u8])
     requires { ⌜ start + length (now out) ≤ length (now bytes) ⌝ }
+    ensures { λ _. ⌜ now (out .exit) ≡ bytesFrom (now (bytes .entry)) start (length (now (out .entry))) ⌝ }
 {
     for i in 0..out.len() {
         out[i] = bytes[start + i];
@@ -18,6 +20,7 @@ pub fn load_bytes(bytes: &[u8], start: usize, out: &mut [u8])
 // Fills `out` with the numbers from `start` on.
 pub fn load_words(bytes: &[u8], start: usize, out: &mut [u32])
     requires { ⌜ start + 4 * length (now out) ≤ length (now bytes) ⌝ }
+    ensures { λ _. ⌜ now (out .exit) ≡ wordsFrom (now (bytes .entry)) start (length (now (out .entry))) ⌝ }
 {
     for i in 0..out.len() {
         out[i] = word_at(bytes, start + 4 * i);
@@ -27,6 +30,7 @@ pub fn load_words(bytes: &[u8], start: usize, out: &mut [u32])
 // Fills `out` with the floats from `start` on.
 pub fn load_floats(bytes: &[u8], start: usize, out: &mut [f32])
     requires { ⌜ start + 4 * length (now out) ≤ length (now bytes) ⌝ }
+    ensures { λ _. ⌜ now (out .exit) ≡ floatsFrom (now (bytes .entry)) start (length (now (out .entry))) ⌝ }
 {
     for i in 0..out.len() {
         out[i] = float_at(bytes, start + 4 * i);
@@ -36,6 +40,7 @@ pub fn load_floats(bytes: &[u8], start: usize, out: &mut [f32])
 // Fills `out` with the levels from `start` on.
 pub fn load_levels(bytes: &[u8], start: usize, out: &mut [i32])
     requires { ⌜ start + 4 * length (now out) ≤ length (now bytes) ⌝ }
+    ensures { λ _. ⌜ now (out .exit) ≡ levelsFrom (now (bytes .entry)) start (length (now (out .entry))) ⌝ }
 {
     for i in 0..out.len() {
         out[i] = level_at(bytes, start + 4 * i);
