@@ -1,12 +1,14 @@
 -- What a search answers, and what every lent buffer holds afterwards.
 use Prim.Native.Nat.{ℕ}
-use mathlib.Core.Bool.{Bool, true, false}
+use mathlib.Core.Path.{_≡_}
+use mathlib.Core.Bool.{false}
 use mathlib.Core.List.{List}
 use lib.IntN.{ℤ}
 use lib.ListN.{length, replicate}
 use lib.Ieee.{Float, inf}
+use Rattle.block.specs.Block.{Block}
 use Rattle.block.specs.declared.Answer.{Answer}
-use Rattle.block.specs.declared.Answer.the-variants.{Cost, Count, Refused}
+use Rattle.block.specs.declared.Answer.the-variants.{Refused}
 
 -- what a search may write to
 pub record Lent : Type 0 where
@@ -33,3 +35,7 @@ cleared l =
 -- refused by one of checks 1 to 14: nothing changes
 abbrev pub refused : ℕ → Lent → Result
 refused number l = record { answer = Refused number; lent = l }
+
+-- A refused block keeps every level: what a search promises of the levels that it leaves, by its answer.
+abbrev pub RefusedKeeps : Block → List ℤ → Answer → Type 0
+RefusedKeeps b after answer = (number : ℕ) → answer ≡ Refused number → after ≡ b .levels

@@ -11,12 +11,14 @@ use lib.Dec.{eqb, ltb}
 use lib.IntN.{ℤ}
 use lib.ListN.{length, length-set}
 use lib.Ieee.{Float, inf, lt}
-use Rattle.block.specs.Band.{inputAfter, pastWindow}
+use Rattle.block.specs.Band.{halfWidth, inputAfter, pastWindow}
 use Rattle.block.specs.Block.{Block, withLevels, covered, inputAt, inputRemaining, nonzerosAmong, ideal, candidatesAt}
 use Rattle.block.specs.Choice.{windowLevels, IsChoice}
 use Rattle.block.specs.Checks.{searchRefusal}
 use Rattle.block.specs.Cost.{firstPrev}
-use Rattle.block.specs.declared.Answer.the-variants.{Count}
+use Rattle.block.specs.Outcome.{RefusedKeeps}
+use Rattle.block.specs.declared.Answer.{Answer}
+use Rattle.block.specs.declared.Answer.the-variants.{Count, Refused}
 use Rattle.block_checks.specs.Passed.{Passed}
 use Rattle.block_checks.proofs.Laws.{passed}
 use Rattle.candidates.proofs.Laws.{Listed, candidates-listed}
@@ -30,7 +32,7 @@ use Rattle.scan.specs.Scan.{Perm, levelAt}
 use Rattle.scan.proofs.Through.{level-same, level-other}
 use Rattle.weights.specs.Window.{windowOf}
 use Rattle.weights.specs.declared.Window.{Window}
-use Rattle.greedy.specs.Greedy.{othersOf, runStart, greedyCost, stays, chosen, settledAt, settledFrom, greedyLevels, greedyOutcome}
+use Rattle.greedy.specs.Greedy.{Outcome, othersOf, runStart, greedyCost, stays, chosen, settledAt, settledFrom, greedyLevels, greedyOutcome, CountAnswered}
 use Rattle.greedy.proofs.Passing.{among-split}
 
 -- ---- the first least is listed where the level to fall back on is
@@ -116,6 +118,31 @@ unfolding greedyOutcome
 greedy-answers w book b e =
     let choice = greedy-choice w (windowOf (covered b)) book b (passed b (searched book b true e .1 .0)) in
     rw (eq-eqb (searchRefusal book b true) 0 e) (choice, ap Count (sym (choice .count)))
+
+-- whatever equals the outcome meets the whole contract
+pub promised : (book : Book) (b : Block) {answer : Answer} {levels : List ℤ} → (answer ≡ greedyOutcome book b .answer) × (levels ≡ greedyOutcome book b .levels)
+    → (answer ≡ greedyOutcome book b .answer) × ((levels ≡ greedyOutcome book b .levels) × (CountAnswered book b levels answer × RefusedKeeps b levels answer))
+unfolding greedyOutcome
+promised book b {answer} {levels} e = (e .0, (e .1, go (eqb (searchRefusal book b true) 0) refl e))
+  where
+    go : (t : Bool) → eqb (searchRefusal book b true) 0 ≡ t
+        → (answer ≡ cond {A = Outcome} t (record { answer = Count (inputRemaining (withLevels b (greedyLevels (windowOf (covered b)) book b)) (covered b)); levels = greedyLevels (windowOf (covered b)) book b }) (record { answer = Refused (searchRefusal book b true); levels = b .levels }) .answer)
+        × (levels ≡ cond {A = Outcome} t (record { answer = Count (inputRemaining (withLevels b (greedyLevels (windowOf (covered b)) book b)) (covered b)); levels = greedyLevels (windowOf (covered b)) book b }) (record { answer = Refused (searchRefusal book b true); levels = b .levels }) .levels)
+        → CountAnswered book b levels answer × RefusedKeeps b levels answer
+    go true h f = (
+      λ n k.
+          let count : n ≡ inputRemaining (withLevels b (greedyLevels (windowOf (covered b)) book b)) (covered b) = cc in
+          (subst⁻¹ (IsChoice halfWidth (windowOf (covered b)) book b) (f .1) (greedy-choice halfWidth (windowOf (covered b)) book b (passed b (searched book b true (eqb-true _ 0 h) .1 .0))), count ∙ ap (λ (y : List ℤ). inputRemaining (withLevels b y) (covered b)) (sym (f .1))),
+      λ n k.
+          let bad : _≡_ {A = ℕ} 0 1 = cc in
+          absurd (omega arith),
+    )
+    go false h f = (
+      λ n k.
+          let bad : _≡_ {A = ℕ} 0 1 = cc in
+          absurd (omega arith),
+      λ n k. f .1,
+    )
 
 -- ---- `prev` of a run's first zero is 1 at the first position too: where no nonzero level stands behind the run, the whole count is 1
 all-zero : (scan : List ℕ) (levels : List ℤ) (c i : ℕ) → runStart scan levels c i ≡ 0 → nonzerosAmong scan levels c i ≡ 0

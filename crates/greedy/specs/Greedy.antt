@@ -1,15 +1,17 @@
 -- The greedy search: one pass over the window, from the last position to the first. Each position takes its cheapest candidate, given the levels chosen behind it;
 -- in front of it stand the input's. So each step is told of the block as it stands: its levels are the chosen ones behind the position and the input's elsewhere.
 use Prim.Native.Nat.{ℕ, zero, suc, _+_, _-_}
+use mathlib.Core.Path.{_≡_}
 use mathlib.Core.Bool.{Bool, true, false, cond, _&&_, _||_}
 use mathlib.Core.List.{List}
 use lib.Dec.{eqb}
 use lib.IntN.{ℤ, pos}
 use lib.ListN.{getD, length, set}
 use lib.Ieee.{Float, fin, inf, add, mul, binary32}
-use Rattle.block.specs.Band.{inputAfter}
+use Rattle.block.specs.Band.{halfWidth, inputAfter}
 use Rattle.block.specs.Block.{Block, withLevels, covered, inputAt, inputRemaining, nonzerosAmong, candidatesAt}
 use Rattle.block.specs.Checks.{searchRefusal}
+use Rattle.block.specs.Choice.{IsChoice}
 use Rattle.block.specs.Cost.{distortion, rate, tokenPrice, firstPrev, countCost}
 use Rattle.block.specs.declared.Answer.{Answer}
 use Rattle.block.specs.declared.Answer.the-variants.{Count, Refused}
@@ -107,3 +109,8 @@ greedyOutcome book b =
     cond (eqb refusal 0)
     (record { answer = Count (inputRemaining (withLevels b levels) (covered b)); levels = levels })
     (record { answer = Refused refusal; levels = b .levels })
+
+-- What an answered count says of the levels written: they are a choice, and the count is theirs.
+abbrev pub CountAnswered : Book → Block → List ℤ → Answer → Type 0
+CountAnswered book b written answer =
+    (count : ℕ) → answer ≡ Count count → IsChoice halfWidth (windowOf (covered b)) book b written × (count ≡ inputRemaining (withLevels b written) (covered b))

@@ -9,8 +9,9 @@ use block::Shape;
 use weights::Settings;
 ghost use mathlib.Core.Path.{_≡_};
 ghost use Rattle.block.specs.Block.{blockOf};
+ghost use Rattle.block.specs.Outcome.{RefusedKeeps};
 ghost use Rattle.prices.specs.Book.{bookOf};
-ghost use Rattle.greedy.specs.Greedy.{greedyOutcome};
+ghost use Rattle.greedy.specs.Greedy.{greedyOutcome, CountAnswered};
 
 // Writes each position's cheapest candidate and answers the count of nonzero levels from scan position c on; or refuses by one of
 // checks 1 to 13 and changes nothing. Where no candidate's cost is finite the level stays. A level written may be 32,768 in size,
@@ -32,6 +33,8 @@ pub fn rdoq_block_greedy(
 ) -> Answer
     ensures { λ r. ⌜ r ≡ greedyOutcome (bookOf clusters (now (map .entry)) (now (configs .entry)) (now (symbols .entry)) (now (ready .entry))) (blockOf shape settings bias scale (now (scan .entry)) (now (source .entry)) (now («inv_qm» .entry)) (now (levels .entry))) .answer ⌝ }
     ensures { λ r. ⌜ now (levels .exit) ≡ greedyOutcome (bookOf clusters (now (map .entry)) (now (configs .entry)) (now (symbols .entry)) (now (ready .entry))) (blockOf shape settings bias scale (now (scan .entry)) (now (source .entry)) (now («inv_qm» .entry)) (now (levels .entry))) .levels ⌝ }
+    ensures { λ r. ⌜ CountAnswered (bookOf clusters (now (map .entry)) (now (configs .entry)) (now (symbols .entry)) (now (ready .entry))) (blockOf shape settings bias scale (now (scan .entry)) (now (source .entry)) (now («inv_qm» .entry)) (now (levels .entry))) (now (levels .exit)) r ⌝ }
+    ensures { λ r. ⌜ RefusedKeeps (blockOf shape settings bias scale (now (scan .entry)) (now (source .entry)) (now («inv_qm» .entry)) (now (levels .entry))) (now (levels .exit)) r ⌝ }
 {
     let book = book_checks::check_book(clusters, map, configs, symbols, ready);
     if book != 0 {

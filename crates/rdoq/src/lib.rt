@@ -4,5 +4,6 @@ pub mod book;
 pub mod contexts;
 pub mod dequant;
 pub mod levels;
+pub mod search;
 pub mod tokens;
 pub mod weighing;

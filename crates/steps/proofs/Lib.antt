@@ -1,4 +1,6 @@
 pub mod Zero
+pub mod Arrays
+pub mod Listed
 pub mod Spots
 pub mod Counting
 pub mod Tails

@@ -5,7 +5,7 @@ use mathlib.Core.List.{List}
 use lib.IntN.{ℤ, pos}
 use lib.ListN.{length, getD, take}
 use lib.Dec.{T}
-use lib.Ieee.{Float}
+use lib.Ieee.{Float, nan}
 use Rattle.ac_context.specs.Contexts.{Covered, fineNonZeroContext, fineZeroDensityContextsOffset}
 use Rattle.bias.specs.Level.{isLevel}
 use Rattle.block.specs.Block.{Block, covered, contextOf, inputAt, idealAt, candidatesAt}
@@ -65,6 +65,10 @@ pub record Usable (c : Candidates) : Type 0 where
   pub few : c .count ≤ 5
   pub five : length (c .levels) ≡ 5
   pub levels : (j : ℕ) → j < c .count → T (isLevel (getD (c .levels) j (pos 0)))
+
+-- costs holds what g gives for each level
+pub record Each (g : ℤ → Float) (levels : List ℤ) (costs : List Float) : Type 0 where
+  pub at : (j : ℕ) → j < length levels → getD costs j nan ≡ g (getD levels j (pos 0))
 
 -- what stands at window position i of a block
 pub record Spotted (b : Block) (log2 i : ℕ) (s : Spot) : Type 0 where

@@ -13,7 +13,8 @@ ghost use mathlib.Core.List.{[]};
 ghost use Prim.Native.Nat.{_+_, _*_, _<_, _≤_};
 ghost use Rattle.ac_context.specs.Contexts.{isPowerBelow};
 ghost use Rattle.block.specs.Block.{Block, blockOf};
-ghost use Rattle.steps.specs.Plan.{Planned, Coded, Lists, Readable, Spotted, Usable};
+ghost use Rattle.steps.specs.Place.{distortionAt};
+ghost use Rattle.steps.specs.Plan.{Planned, Coded, Lists, Readable, Spotted, listed, Usable, Each};
 
 // What a block's shape, settings, bias and scale give.
 pub struct Plan {
@@ -111,4 +112,19 @@ impl Plan {
             self.lambda
         }
     }
+}
+
+// The distortion of each candidate.
+pub fn distortions(place: Place, candidates: Candidates) -> [f32; 5]
+    requires { ⌜ Usable candidates ⌝ }
+    ensures { λ r. ⌜ Each (distortionAt place) (listed candidates) r ⌝ }
+{
+    let count = candidates.count;
+    let mut distortion = [0.0f32; 5];
+    let mut j = 0;
+    while j < count {
+        distortion[j] = place.distortion(candidates.levels[j]);
+        j += 1;
+    }
+    distortion
 }

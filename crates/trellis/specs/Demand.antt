@@ -49,7 +49,3 @@ pub record LeastCost (book : Book) (b : Block) (written : List ℤ) (cost : Floa
 
 abbrev pub LeastAnswered : Book → Block → List ℤ → Answer → Type 0
 LeastAnswered book b written answer = (cost : Float) (count : ℕ) → answer ≡ Cost cost count → LeastCost book b written cost count
-
--- A refused block keeps every level.
-abbrev pub RefusedKeeps : Block → List ℤ → Answer → Type 0
-RefusedKeeps b after answer = (number : ℕ) → answer ≡ Refused number → after ≡ b .levels

@@ -11,8 +11,9 @@ use block::Shape;
 use weights::Settings;
 ghost use mathlib.Core.Path.{_≡_};
 ghost use Rattle.block.specs.Block.{blockOf};
+ghost use Rattle.block.specs.Outcome.{RefusedKeeps};
 ghost use Rattle.prices.specs.Book.{bookOf};
-ghost use Rattle.trellis.specs.Demand.{RefusedExactly, LeastAnswered, RefusedKeeps};
+ghost use Rattle.trellis.specs.Demand.{RefusedExactly, LeastAnswered};
 ghost use Rattle.trellis.specs.Outcome.{bandedOutcome, lentOf, resultOf};
 
 // Writes the levels of a least-cost choice in the band, and answers its cost and its count of nonzero levels from scan position c on; or

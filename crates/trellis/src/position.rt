@@ -2,7 +2,6 @@
 use bias::DequantBias;
 use block::Shape;
 use steps::reading::Plan;
-use trellis_row::row;
 use trellis_row::row::Span;
 use weights::Settings;
 ghost use mathlib.Core.Path.{_≡_};
@@ -118,7 +117,7 @@ pub(crate) fn take_position(
     let span = span_of(after, next_counts);
     let place = spot.place;
     let candidates = spot.candidates;
-    row::fill_row(
+    trellis_sole::fill_row(
         clusters,
         map,
         configs,

@@ -1,5 +1,3 @@
-pub mod Arrays
-pub mod Listed
 pub mod Scanning
 pub mod Noting
 pub mod Tying

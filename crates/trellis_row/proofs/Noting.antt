@@ -14,7 +14,7 @@ use Rattle.least_cost.specs.Search.{hasZero}
 use Rattle.trellis_row.specs.Locals.{nothing, considered, noted, Empty, FirstLeast, Each, Located}
 use Rattle.trellis_row.specs.declared.locals.Least.{Least}
 use Rattle.trellis_row.specs.declared.locals.Locals.{Locals}
-use Rattle.trellis_row.proofs.Arrays.{Front, front-none, front-more}
+use Rattle.steps.proofs.Arrays.{Front, front-none, front-more}
 use Rattle.trellis_row.proofs.Scanning.{Scanned, scanned-none, scanned-zero, scanned-more, scanned-all}
 
 -- one of the first j levels is 0: then z is its local cost

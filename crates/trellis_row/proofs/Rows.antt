@@ -224,17 +224,16 @@ pub held-none : (book : Book) (x : Place) (levels : List ℤ) (l : Locals) → H
 held-none book x levels l = record { located = λ h. absurd (omega arith) }
 
 -- the counts from `least` up to r, r not included, are done
-pub record SoFar (book : Book) (x : Place) (levels : List ℤ) (next : List Float) (s : Span) (at least most r : ℕ) (row row' : List Float) (choices choices' : List ℕ) (context : ℕ) (l : Locals) : Type 0 where
+pub record SoFar (book : Book) (x : Place) (levels : List ℤ) (next : List Float) (s : Span) (at least most r : ℕ) (row row' : List Float) (choices choices' : List ℕ) : Type 0 where
   pub from : least ≤ r
   pub upto : r ≤ most + 1
   pub size : length row' ≡ length row
   pub elsewhere : Elsewhere at (2 * (r - least)) choices choices'
   pub done : RowIs book x levels next s least at (2 * (r - least)) row' choices'
-  pub held : Held book x levels context l
 
-pub so-far-none : (book : Book) (x : Place) (levels : List ℤ) (next : List Float) (s : Span) (at least most : ℕ) (row : List Float) (choices : List ℕ) (l : Locals) → least ≤ most
-    → SoFar book x levels next s at least most least row row choices choices 14850 l
-so-far-none book x levels next s at least most row choices l h =
+pub so-far-none : (book : Book) (x : Place) (levels : List ℤ) (next : List Float) (s : Span) (at least most : ℕ) (row : List Float) (choices : List ℕ) → least ≤ most
+    → SoFar book x levels next s at least most least row row choices choices
+so-far-none book x levels next s at least most row choices h =
     let nothing : 2 * (least - least) ≡ 0 = omega arith in
     record {
       from = le-refl least;
@@ -242,15 +241,13 @@ so-far-none book x levels next s at least most row choices l h =
       size = refl;
       elsewhere = rw nothing (elsewhere-none at choices);
       done = rw nothing (row-none book x levels next s least at row choices);
-      held = held-none book x levels l;
     }
 
-pub so-far-more : {book : Book} {x : Place} {levels : List ℤ} {next : List Float} {s : Span} {at least most r : ℕ} {row row' row'' : List Float} {choices choices' choices'' : List ℕ} {context context' : ℕ} {l l' : Locals}
-    → r ≤ most → SoFar book x levels next s at least most r row row' choices choices' context l
-    → Held book x levels context' l' → length row'' ≡ length row' → Elsewhere (at + 2 * (r - least)) 2 choices' choices''
+pub so-far-more : {book : Book} {x : Place} {levels : List ℤ} {next : List Float} {s : Span} {at least most r : ℕ} {row row' row'' : List Float} {choices choices' choices'' : List ℕ}
+    → r ≤ most → SoFar book x levels next s at least most r row row' choices choices' → length row'' ≡ length row' → Elsewhere (at + 2 * (r - least)) 2 choices' choices''
     → (RowIs book x levels next s least at (2 * (r - least)) row' choices' → RowIs book x levels next s least at (2 * (r - least) + 2) row'' choices'')
-    → SoFar book x levels next s at least most (r + 1) row row'' choices choices'' context' l'
-so-far-more {at = at} {least} {most} {r} h w held size elsewhere more =
+    → SoFar book x levels next s at least most (r + 1) row row'' choices choices''
+so-far-more {at = at} {least} {most} {r} h w size elsewhere more =
     let step : 2 * (r + 1 - least) ≡ 2 * (r - least) + 2 = omega (arith, w .from) in
     record {
       from = omega (arith, w .from);
@@ -258,5 +255,4 @@ so-far-more {at = at} {least} {most} {r} h w held size elsewhere more =
       size = size ∙ w .size;
       elsewhere = rw step (elsewhere-more (w .elsewhere) elsewhere);
       done = rw step (more (w .done));
-      held = held;
     }

@@ -8,7 +8,7 @@ use lib.ListN.{getD, set, take, length}
 use lib.Ieee.{Float, nan, inf, lt}
 use lib.Dec.{T, eqb}
 use Rattle.bias.specs.Level.{isLevel}
-pub use Rattle.steps.specs.Plan.{listed, Usable}
+pub use Rattle.steps.specs.Plan.{listed, Usable, Each}
 use Rattle.least_cost.specs.Position.{nz}
 use Rattle.least_cost.specs.Search.{least, holder, nonzeros, hasZero}
 use Rattle.least_cost.specs.Factored.{runnerUp}
@@ -31,10 +31,6 @@ pub record FirstLeast (g : ℤ → Float) (levels : List ℤ) (l : Least) : Type
   pub cost : l .cost ≡ least g (inf false) (nonzeros levels)
   pub before : l .before ≡ runnerUp g (inf false) (inf false) (nonzeros levels)
   pub choice : getD levels (l .choice) (pos 0) ≡ holder g (inf false) (pos 0) (nonzeros levels)
-
--- costs holds the local cost g of each level
-pub record Each (g : ℤ → Float) (levels : List ℤ) (costs : List Float) : Type 0 where
-  pub at : (j : ℕ) → j < length levels → getD costs j nan ≡ g (getD levels j (pos 0))
 
 -- g is the local cost by level for `prev` 0, h for `prev` 1
 pub record Located (g h : ℤ → Float) (levels : List ℤ) (l : Locals) : Type 0 where

@@ -86,21 +86,6 @@ impl Locals {
     }
 }
 
-// The distortion of each candidate.
-pub fn distortions(place: Place, candidates: Candidates) -> [f32; 5]
-    requires { ⌜ Usable candidates ⌝ }
-    ensures { λ r. ⌜ Each (distortionAt place) (listed candidates) r ⌝ }
-{
-    let count = candidates.count;
-    let mut distortion = [0.0f32; 5];
-    let mut j = 0;
-    while j < count {
-        distortion[j] = place.distortion(candidates.levels[j]);
-        j += 1;
-    }
-    distortion
-}
-
 // The local costs in one context, their distortions at hand.
 pub fn locals_in(
     clusters: u32,

@@ -30,12 +30,12 @@ pub struct Span {
 }
 
 // The two states of a count.
-pub struct Pair {
+pub struct States {
     pub first: Chosen,
     pub second: Chosen,
 }
 
-fn tail_at(next: &[f32], span: Span, r: usize, prev: usize) -> f32
+pub fn tail_at(next: &[f32], span: Span, r: usize, prev: usize) -> f32
     requires { ⌜ (span .base ≤ span .from) × ((span .from ≤ span .upto → 2 * (span .upto - span .base) + 1 < length (now next)) × (prev ≤ 1)) ⌝ }
     ensures { λ t. ⌜ t ≡ tailAt (now (next .entry)) span r prev ⌝ }
 {
@@ -49,7 +49,7 @@ fn tail_at(next: &[f32], span: Span, r: usize, prev: usize) -> f32
     next[at]
 }
 
-fn nonzero_tail(next: &[f32], span: Span, r: usize) -> f32
+pub fn nonzero_tail(next: &[f32], span: Span, r: usize) -> f32
     requires { ⌜ (span .base ≤ span .from) × (span .from ≤ span .upto → 2 * (span .upto - span .base) + 1 < length (now next)) ⌝ }
     ensures { λ t. ⌜ t ≡ nonzeroTail (now (next .entry)) span r ⌝ }
 {
@@ -116,7 +116,7 @@ fn settle(
     zero: u8,
     nonzero_tail: f32,
     zero_tail: f32,
-) -> Pair
+) -> States
     requires { ⌜ Usable candidates ⌝ }
     ensures { λ r. ⌜ ((g h : ℤ → Float) → Located g h (listed candidates) locals → ((q : ℤ) → List·Memᴰ q (listed candidates) → T (isCost (g q))) → ((q : ℤ) → List·Memᴰ q (listed candidates) → T (isCost (h q)))
         → ZeroAt (listed candidates) zero → T (isCost «nonzero_tail») → T (isCost «zero_tail») → (hasZero (listed candidates) ≡ false → «zero_tail» ≡ inf false)
@@ -126,7 +126,7 @@ fn settle(
     let second = locals.second;
     let least_first = locals.least_first;
     let least_second = locals.least_second;
-    Pair {
+    States {
         first: chosen::choose(
             candidates,
             first,
@@ -154,7 +154,7 @@ pub struct Cache {
     pub locals: Locals,
 }
 
-fn write_pair(current: &mut [f32], choices: &mut [u8], i: usize, at: usize, pair: Pair)
+pub fn write_pair(current: &mut [f32], choices: &mut [u8], i: usize, at: usize, pair: States)
     requires { ⌜ (i + 1 < length (now current)) × (at + i + 1 < length (now choices)) ⌝ }
     ensures { λ r. ⌜ (now (current .exit) ≡ set (set (now (current .entry)) i (pair .first .cost)) (i + 1) (pair .second .cost))
         × (now (choices .exit) ≡ set (set (now (choices .entry)) (at + i) (pair .first .choice)) (at + i + 1) (pair .second .choice)) ⌝ }
@@ -181,14 +181,14 @@ fn infinite(x: f32, z: f32) -> bool
 }
 
 // Both states where nothing finite follows.
-fn unreachable() -> Pair
+pub fn unreachable() -> States
     ensures { λ r. ⌜ (r .first .cost ≡ inf false) × (r .second .cost ≡ inf false) ⌝ }
 {
     let none = Chosen {
         cost: costs::infinity(),
         choice: 255,
     };
-    Pair {
+    States {
         first: none,
         second: none,
     }
@@ -280,7 +280,7 @@ pub fn fill_row(
     ensures { λ s. ⌜ Elsewhere at (2 * (most + 1 - least)) (now (choices .entry)) (now (choices .exit)) ⌝ }
     ensures { λ s. ⌜ RowIs (bookOf clusters (now (map .entry)) (now (configs .entry)) (now (symbols .entry)) (now (ready .entry))) place (listed candidates) (now (next .entry)) span least at (2 * (most + 1 - least)) (now (current .exit)) (now (choices .exit)) ⌝ }
 {
-    let distortion = locals::distortions(place, candidates);
+    let distortion = steps::reading::distortions(place, candidates);
     let zero = chosen::zero_index(candidates);
     let mut cache = Cache {
         context: 14850,

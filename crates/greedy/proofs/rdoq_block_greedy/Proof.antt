@@ -1,4 +1,5 @@
 use Rattle.block_checks.proofs.Laws.{passed, refused-book, refused-block}
+use Rattle.greedy.proofs.Choosing.{promised}
 use Rattle.greedy.proofs.Settling.{own-lists, fitting-of, ready-of, counted-few, refused-outcome, settled-outcome}
 use Rattle.steps.proofs.Plans.{planned-lists}
 use mathlib.Core.Bool.{true}
@@ -13,7 +14,7 @@ check-book-requires c κs = search needs
 
 returns : tie.Need-returns
 returns c =
-    refused-outcome _ _ (c .before .check-book .ensures ∙ sym (refused-book _ _ true (λ e. c .if1 .taken (c .before .check-book .ensures ∙ e)))) (c .if1 .taken)
+    promised _ _ (refused-outcome _ _ (c .before .check-book .ensures ∙ sym (refused-book _ _ true (λ e. c .if1 .taken (c .before .check-book .ensures ∙ e)))) (c .if1 .taken))
 
 check-block-requires : tie.Need-check-block-requires
 check-block-requires c κs = search needs
@@ -24,7 +25,7 @@ same-length c = search needs
 returns-2 : tie.Need-returns-2
 returns-2 c =
     let ok = sym (c .before .before .before .before .check-book .ensures) ∙ c .before .before .before .if1 .left in
-    refused-outcome _ _ (c .before .check-block .ensures ∙ sym (refused-block _ _ true ok (λ e. c .if2 .taken (c .before .check-block .ensures ∙ e)))) (c .if2 .taken)
+    promised _ _ (refused-outcome _ _ (c .before .check-block .ensures ∙ sym (refused-block _ _ true ok (λ e. c .if2 .taken (c .before .check-block .ensures ∙ e)))) (c .if2 .taken))
 
 plan-of-requires : tie.Need-plan-of-requires
 plan-of-requires c κs =
@@ -57,7 +58,7 @@ returns-3 c =
     let ok = sym (c .before .before .before .before .before .before .before .before .check-book .ensures) ∙ c .before .before .before .before .before .before .before .if1 .left in
     let passes = sym (c .before .before .before .before .before .check-block .ensures) ∙ c .before .before .before .before .if2 .left in
     let planned = planned-lists _ (c .before .before .before .plan-of .ensures .0) _ _ _ _ in
-    settled-outcome _ _ ok passes planned (c .before .settle .ensures .0 _ (own-lists _) planned) (c .before .settle .ensures .1)
+    promised _ _ (settled-outcome _ _ ok passes planned (c .before .settle .ensures .0 _ (own-lists _) planned) (c .before .settle .ensures .1))
 
 pub rdoq-block-greedy-spec : {M : Type 1} → statement M
 rdoq-block-greedy-spec =

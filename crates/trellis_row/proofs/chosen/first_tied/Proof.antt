@@ -5,7 +5,7 @@ use Rattle.trellis_row.specs.Locals.{Each}
 use lib.Ieee.{Float}
 use lib.ListN.{getD}
 use lib.IntN.{ℤ, pos}
-use Rattle.trellis_row.proofs.Listed.{usable-listed, listed-at, listed-length, listed-below}
+use Rattle.steps.proofs.Listed.{usable-listed, listed-at, listed-length, listed-below}
 use Rattle.trellis_row.specs.Locals.{listed}
 use mathlib.Core.Path.{_≡_, _∙_, sym, ap}
 use native.Mathlib.Omega.{arith}

@@ -1,7 +1,7 @@
 use Rattle.least_cost.specs.Position.{nz}
 use mathlib.Core.Bool.{true≢false}
 use Rattle.trellis_row.proofs.Tying.{NoZero, zero-none, zero-more, zero-here, zero-all}
-use Rattle.trellis_row.proofs.Listed.{listed-length, listed-below, listed-zero, listed-nonzero}
+use Rattle.steps.proofs.Listed.{listed-length, listed-below, listed-zero, listed-nonzero}
 use Rattle.trellis_row.specs.Locals.{listed}
 use mathlib.Core.Path.{_≡_, refl, _∙_, sym, ap}
 use native.Mathlib.Omega.{arith}

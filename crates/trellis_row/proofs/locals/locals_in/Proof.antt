@@ -1,4 +1,4 @@
-use Rattle.trellis_row.proofs.Listed.{usable-level, usable-listed, listed-length, listed-below, listed-few}
+use Rattle.steps.proofs.Listed.{usable-level, usable-listed, listed-length, listed-below, listed-few}
 use Rattle.trellis_row.specs.declared.locals.Locals.{Locals}
 use Rattle.trellis_row.specs.Locals.{noted}
 use Rattle.steps.specs.Place.{distortionAt}

@@ -1,5 +1,5 @@
 use lib.Dec.{lit≤}
-use Rattle.trellis_row.proofs.Listed.{listed-few}
+use Rattle.steps.proofs.Listed.{listed-few}
 use Rattle.trellis_row.proofs.Rows.{written-settled, written-dead, nonzero-tail-cost, zero-tail-cost, zero-tail-is, not-below}
 use Rattle.steps.specs.Place.{localAt}
 use native.Mathlib.Omega.{arith}

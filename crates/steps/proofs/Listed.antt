@@ -14,9 +14,9 @@ use Rattle.bias.specs.Level.{isLevel}
 use Rattle.candidates.specs.declared.Candidates.{Candidates}
 use Rattle.bias.proofs.Cases.{level-sfits}
 use Rattle.least_cost.specs.Position.{nz}
 use Rattle.steps.proofs.Zero.{level-back, is-zero, other-nz}
-use Rattle.trellis_row.specs.Locals.{listed, Usable, Each}
-use Rattle.trellis_row.proofs.Arrays.{Front}
+use Rattle.steps.specs.Plan.{listed, Usable, Each}
+use Rattle.steps.proofs.Arrays.{Front}
 
 module _ {c : Candidates} (u : Usable c) where
   pub listed-length : length (listed c) ≡ c .count

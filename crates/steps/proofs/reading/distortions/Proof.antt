@@ -1,15 +1,15 @@
 use mathlib.Core.Path.{_≡_, refl, _∙_, ap}
-use Rattle.trellis_row.proofs.Listed.{usable-back, usable-level, each-listed}
-use Rattle.trellis_row.proofs.Arrays.{Front, front-none, front-more}
+use Rattle.steps.proofs.Listed.{usable-back, usable-level, each-listed}
+use Rattle.steps.proofs.Arrays.{Front, front-none, front-more}
 use Rattle.steps.specs.Place.{distortionAt}
 use native.Mathlib.Omega.{arith}
 use lib.Ieee.{nan}
 use lib.IntN.{pos}
 use lib.ListN.{length, getD, length-set}
 use Prim.Native.Nat.{ℕ, _≤_, _-_}
 use borrow.Author.Needs.{needs}
-use Rattle.trellis_row.proofs.locals.distortions.Statement.{statement}
-use Rattle.trellis_row.proofs.locals.distortions.Tie as tie
+use Rattle.steps.proofs.reading.distortions.Statement.{statement}
+use Rattle.steps.proofs.reading.distortions.Tie as tie
 
 abbrev Inv-loop : tie.InvT-loop
 Inv-loop place candidates count distortion₀ j₀ distortion j =

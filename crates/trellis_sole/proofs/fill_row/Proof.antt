@@ -1,0 +1,44 @@
+use borrow.Author.Needs.{needs}
+use Rattle.trellis_sole.proofs.fill_row.Statement.{statement}
+use Rattle.trellis_sole.proofs.fill_row.Tie as tie
+use Rattle.trellis_sole.proofs.fill_row.Reads as reads
+use Rattle.trellis_sole.proofs.fill_row.Lts as lts
+use Rattle.trellis_row.proofs.row.fill_row.Reads as fill-row-reads
+use Rattle.trellis_sole.proofs.fill_sole.Reads as fill-sole-reads
+
+fill-sole-requires : tie.Need-fill-sole-requires
+fill-sole-requires c κs = (c .before .before .before .before .before .before .before .before .before .before .before .pre .0, (c .before .before .if1 .taken, c .before .before .before .before .before .before .before .before .before .before .before .pre .1))
+
+same-length : tie.Need-same-length
+same-length c = c .before .before .before .before .fill-sole .ensures .0
+
+same-length-2 : tie.Need-same-length-2
+same-length-2 c = c .before .before .before .before .fill-sole .ensures .1 .0 .size
+
+returns : tie.Need-returns
+returns c = c .before .before .before .before .fill-sole .ensures
+
+fill-row-requires : tie.Need-fill-row-requires
+fill-row-requires c κs = search needs
+
+same-length-3 : tie.Need-same-length-3
+same-length-3 c = c .before .before .before .before .fill-row .ensures .0
+
+same-length-4 : tie.Need-same-length-4
+same-length-4 c = c .before .before .before .before .fill-row .ensures .1 .0 .size
+
+returns-2 : tie.Need-returns-2
+returns-2 c = c .before .before .before .before .fill-row .ensures
+
+pub fill-row-spec : {M : Type 1} → statement M
+fill-row-spec =
+    tie.close
+    (tie.spec
+    fill-sole-requires
+    same-length
+    same-length-2
+    returns
+    fill-row-requires
+    same-length-3
+    same-length-4
+    returns-2)

@@ -1,0 +1,2 @@
+-- A position with one candidate.
+pub mod Sole
