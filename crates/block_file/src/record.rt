@@ -4,6 +4,7 @@ use crate::fields::word_at;
 ghost use mathlib.Core.Path.{_≡_};
 ghost use Prim.Native.Nat.{_+_, _*_, _≤_};
 ghost use lib.ListN.{length};
+ghost use Rattle.block_file.specs.Within.{Within};
 
 // The longest lists that are read: a book of 258 clusters and a block of 65,536 levels, and some entries more.
 pub const MAP: usize = 14912;
@@ -172,10 +173,7 @@ fn before_levels(bytes: &[u8]) -> List
 // The block's record that `bytes` begins with.
 pub fn block_record(bytes: &[u8]) -> BlockRecord
     requires { ⌜ 53 ≤ length (now bytes) ⌝ }
-    ensures { λ r. ⌜ (r .levels .start + 4 * r .levels .count ≤ length (now (bytes .entry))) × (r .levels .count ≤ 65600) ⌝ }
-    ensures { λ r. ⌜ (r .scan .start + 4 * r .scan .count ≤ length (now (bytes .entry))) × (r .scan .count ≤ 65600) ⌝ }
-    ensures { λ r. ⌜ (r .source .start + 4 * r .source .count ≤ length (now (bytes .entry))) × (r .source .count ≤ 65600) ⌝ }
-    ensures { λ r. ⌜ (r .inverse .start + 4 * r .inverse .count ≤ length (now (bytes .entry))) × ((r .inverse .count ≤ 65600) × (r .inverse .end ≤ length (now (bytes .entry)))) ⌝ }
+    ensures { λ r. ⌜ Within r (length (now (bytes .entry))) × (r .inverse .end ≤ length (now (bytes .entry))) ⌝ }
 {
     let levels = words_after(bytes, before_levels(bytes), LEVELS);
     let scan = words_after(bytes, levels, LEVELS);
@@ -202,9 +200,9 @@ pub struct Measured {
     pub length: usize,
 }
 
-// The record whose last list is this.
+// The record of this kind whose last list is this.
 fn ended_by(last: List, kind: u8) -> Measured
-    ensures { λ r. ⌜ r .length ≤ last .end ⌝ }
+    ensures { λ r. ⌜ (r .length ≤ last .end) × ((r .kind ≡ 3 → kind ≡ 3) × (r .kind ≡ 4 → kind ≡ 4)) ⌝ }
 {
     if last.state == WHOLE {
         return Measured {
@@ -212,18 +210,20 @@ fn ended_by(last: List, kind: u8) -> Measured
             length: last.end,
         };
     }
+    if last.state == SHORT {
+        return Measured {
+            kind: SHORT,
+            length: 0,
+        };
+    }
     Measured {
-        kind: if last.state == SHORT {
-            SHORT
-        } else {
-            UNREADABLE
-        },
+        kind: UNREADABLE,
         length: 0,
     }
 }
 
 fn measure_book(bytes: &[u8]) -> Measured
-    ensures { λ r. ⌜ r .length ≤ length (now (bytes .entry)) ⌝ }
+    ensures { λ r. ⌜ (r .length ≤ length (now (bytes .entry))) × ((r .kind ≡ 3 → 5 ≤ length (now (bytes .entry))) × (r .kind ≡ 4 → 53 ≤ length (now (bytes .entry)))) ⌝ }
 {
     if bytes.len() < BOOK_HEAD {
         return Measured {
@@ -236,7 +236,7 @@ fn measure_book(bytes: &[u8]) -> Measured
 }
 
 fn measure_block(bytes: &[u8]) -> Measured
-    ensures { λ r. ⌜ r .length ≤ length (now (bytes .entry)) ⌝ }
+    ensures { λ r. ⌜ (r .length ≤ length (now (bytes .entry))) × ((r .kind ≡ 3 → 5 ≤ length (now (bytes .entry))) × (r .kind ≡ 4 → 53 ≤ length (now (bytes .entry)))) ⌝ }
 {
     if bytes.len() < HEAD {
         return Measured {
@@ -248,8 +248,9 @@ fn measure_block(bytes: &[u8]) -> Measured
     ended_by(lists.inverse, BLOCK)
 }
 
+// The record that `bytes` begins with. A book's is at least BOOK_HEAD bytes long and a block's HEAD.
 pub fn measure(bytes: &[u8]) -> Measured
-    ensures { λ r. ⌜ r .length ≤ length (now (bytes .entry)) ⌝ }
+    ensures { λ r. ⌜ (r .length ≤ length (now (bytes .entry))) × ((r .kind ≡ 3 → 5 ≤ length (now (bytes .entry))) × (r .kind ≡ 4 → 53 ≤ length (now (bytes .entry)))) ⌝ }
 {
     if bytes.len() == 0 {
         return Measured {
