@@ -210,10 +210,11 @@ fn advance(input: &mut [u8], room: usize, state: State) -> State
     requires { ⌜ Sound (length (now input)) room state ⌝ }
     ensures { λ r. ⌜ Sound (length (now (input .entry))) room r ⌝ }
 {
-    let next = input::next_record(input, state.held);
+    let held = state.held;
+    let book = state.book;
     State {
-        held: next,
-        book: state.book,
+        held: input::next_record(input, held),
+        book,
         number: state.number,
         used: state.used,
     }

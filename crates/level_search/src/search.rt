@@ -8,11 +8,10 @@ ghost use mathlib.Core.Path.{_≡_};
 ghost use Prim.Native.Nat.{_≤_};
 ghost use lib.ListN.{length};
 
-const GREEDY: u8 = 0;
+const GREEDY: u32 = 0;
 
-const BEAM: u8 = 1;
+const BEAM: u32 = 1;
 
-const TRELLIS: u8 = 2;
 
 fn copy_levels(from: &[i32], to: &mut [i32])
     requires { ⌜ length (now from) ≤ length (now to) ⌝ }
@@ -23,7 +22,7 @@ fn copy_levels(from: &[i32], to: &mut [i32])
 }
 
 fn run(
-    search: u8,
+    search: u32,
     clusters: u32,
     map: &[u8],
     configs: &[u8],
@@ -82,10 +81,32 @@ fn run(
     )
 }
 
+// Prints the line of a search, under its name.
+fn print_line(
+    search: u32,
+    number: u64,
+    answer: Answer,
+    levels: &[i32],
+    work: &[i32],
+    out: &mut [u8],
+    used: usize,
+) -> usize
+    requires { ⌜ length (now levels) ≤ length (now work) ⌝ }
+    requires { ⌜ (80 ≤ length (now out)) × (used ≤ length (now out)) ⌝ }
+    ensures { λ r. ⌜ r ≤ length (now (out .entry)) ⌝ }
+{
+    if search == GREEDY {
+        return output::print_line(out, used, number, b" Greedy ", answer, levels, work);
+    }
+    if search == BEAM {
+        return output::print_line(out, used, number, b" Beam ", answer, levels, work);
+    }
+    output::print_line(out, used, number, b" Trellis ", answer, levels, work)
+}
+
 // Runs one search on a copy of the levels and prints its line.
 fn search_one(
-    search: u8,
-    name: &[u8],
+    search: u32,
     number: u64,
     clusters: u32,
     map: &[u8],
@@ -104,7 +125,7 @@ fn search_one(
     out: &mut [u8],
     used: usize,
 ) -> usize
-    requires { ⌜ (length (now name) ≤ 12) × (length (now levels) ≤ length (now work)) ⌝ }
+    requires { ⌜ length (now levels) ≤ length (now work) ⌝ }
     requires { ⌜ (80 ≤ length (now out)) × (used ≤ length (now out)) ⌝ }
     ensures { λ r. ⌜ r ≤ length (now (out .entry)) ⌝ }
 {
@@ -125,7 +146,7 @@ fn search_one(
         row_a,
         row_b,
     );
-    output::print_line(out, used, number, name, answer, levels, work)
+    print_line(search, number, answer, levels, work, out, used)
 }
 
 // Runs the searches one after the other, each on the levels as read.
@@ -152,67 +173,28 @@ pub fn search_all(
     requires { ⌜ (80 ≤ length (now out)) × (used ≤ length (now out)) ⌝ }
     ensures { λ r. ⌜ r ≤ length (now (out .entry)) ⌝ }
 {
-    let after_greedy = search_one(
-        GREEDY,
-        b" Greedy ",
-        number,
-        clusters,
-        map,
-        configs,
-        symbols,
-        ready,
-        head,
-        scan,
-        source,
-        inv_qm,
-        levels,
-        work,
-        choices,
-        row_a,
-        row_b,
-        out,
-        used,
-    );
-    let after_beam = search_one(
-        BEAM,
-        b" Beam ",
-        number,
-        clusters,
-        map,
-        configs,
-        symbols,
-        ready,
-        head,
-        scan,
-        source,
-        inv_qm,
-        levels,
-        work,
-        choices,
-        row_a,
-        row_b,
-        out,
-        after_greedy,
-    );
-    search_one(
-        TRELLIS,
-        b" Trellis ",
-        number,
-        clusters,
-        map,
-        configs,
-        symbols,
-        ready,
-        head,
-        scan,
-        source,
-        inv_qm,
-        levels,
-        work,
-        choices,
-        row_a,
-        row_b,
-        out,
-        after_beam,
-    )
+    let mut end = used;
+    for search in 0..3 {
+        end = search_one(
+            search,
+            number,
+            clusters,
+            map,
+            configs,
+            symbols,
+            ready,
+            head,
+            scan,
+            source,
+            inv_qm,
+            levels,
+            work,
+            choices,
+            row_a,
+            row_b,
+            out,
+            end,
+        );
+    }
+    end
 }
