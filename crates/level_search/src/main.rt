@@ -5,6 +5,7 @@ mod room;
 mod search;
 
 use block_file::fields;
+use block_file::fields::Head;
 use block_file::load;
 use block_file::record;
 use block_file::record::BlockRecord;
@@ -69,6 +70,79 @@ fn load_block(
     load::take_floats(bytes, lists.inverse, inv_qm);
 }
 
+// The lengths of the rooms that a block's record asks for.
+struct Rooms {
+    choices: usize,
+    row_a: usize,
+    row_b: usize,
+}
+
+fn rooms_at(bytes: &[u8]) -> Rooms
+    requires { ⌜ 53 ≤ length (now bytes) ⌝ }
+    ensures { λ r. ⌜ (r .choices ≤ 28736) × ((r .«row_a» ≤ 64) × (r .«row_b» ≤ 64)) ⌝ }
+{
+    Rooms {
+        choices: fields::room_at(bytes, 41, record::CHOICES),
+        row_a: fields::room_at(bytes, 45, record::ROW),
+        row_b: fields::room_at(bytes, 49, record::ROW),
+    }
+}
+
+// Searches a block whose lists are loaded, on rooms of the lengths asked for.
+fn search_block(
+    number: u64,
+    clusters: u32,
+    map: &[u8],
+    configs: &[u8],
+    symbols: &[f32],
+    ready: &[f32],
+    head: Head,
+    lists: BlockRecord,
+    rooms: Rooms,
+    scan: &[u32],
+    source: &[f32],
+    inv_qm: &[f32],
+    levels: &[i32],
+    work: &mut [i32],
+    choices: &mut [u8],
+    row_a: &mut [f32],
+    row_b: &mut [f32],
+    out: &mut [u8],
+    used: usize,
+) -> usize
+    requires { ⌜ (lists .levels .count ≤ length (now levels)) × ((lists .scan .count ≤ length (now scan)) × ((lists .source .count ≤ length (now source)) × (lists .inverse .count ≤ length (now «inv_qm»)))) ⌝ }
+    requires { ⌜ (lists .levels .count ≤ length (now work)) × ((rooms .choices ≤ length (now choices)) × ((rooms .«row_a» ≤ length (now «row_a»)) × (rooms .«row_b» ≤ length (now «row_b»)))) ⌝ }
+    requires { ⌜ (80 ≤ length (now out)) × (used ≤ length (now out)) ⌝ }
+    ensures { λ r. ⌜ r ≤ length (now (out .entry)) ⌝ }
+{
+    let n = lists.levels.count;
+    let of_scan = lists.scan.count;
+    let of_source = lists.source.count;
+    let of_inverse = lists.inverse.count;
+    let of_choices = rooms.choices;
+    let of_a = rooms.row_a;
+    let of_b = rooms.row_b;
+    search::search_all(
+        number,
+        clusters,
+        map,
+        configs,
+        symbols,
+        ready,
+        head,
+        &scan[..of_scan],
+        &source[..of_source],
+        &inv_qm[..of_inverse],
+        &levels[..n],
+        &mut work[..n],
+        &mut choices[..of_choices],
+        &mut row_a[..of_a],
+        &mut row_b[..of_b],
+        out,
+        used,
+    )
+}
+
 // Searches the block of a record three times and prints a line for each. Answers how much of `out` is used then.
 fn take_block(
     bytes: &[u8],
@@ -95,31 +169,28 @@ fn take_block(
     requires { ⌜ (80 ≤ length (now out)) × (used ≤ length (now out)) ⌝ }
     ensures { λ r. ⌜ r ≤ length (now (out .entry)) ⌝ }
 {
+    let head = fields::head_at(bytes);
+    let rooms = rooms_at(bytes);
     let lists = record::block_record(bytes);
     load_block(bytes, lists, levels, scan, source, inv_qm);
-    let n = lists.levels.count;
-    let of_scan = lists.scan.count;
-    let of_source = lists.source.count;
-    let of_inverse = lists.inverse.count;
-    let of_choices = fields::room_at(bytes, 41, record::CHOICES);
-    let of_a = fields::room_at(bytes, 45, record::ROW);
-    let of_b = fields::room_at(bytes, 49, record::ROW);
-    search::search_all(
+    search_block(
         number,
         clusters,
         map,
         configs,
         symbols,
         ready,
-        fields::head_at(bytes),
-        &scan[..of_scan],
-        &source[..of_source],
-        &inv_qm[..of_inverse],
-        &levels[..n],
-        &mut work[..n],
-        &mut choices[..of_choices],
-        &mut row_a[..of_a],
-        &mut row_b[..of_b],
+        head,
+        lists,
+        rooms,
+        scan,
+        source,
+        inv_qm,
+        levels,
+        work,
+        choices,
+        row_a,
+        row_b,
         out,
         used,
     )

@@ -12,7 +12,6 @@ const GREEDY: u32 = 0;
 
 const BEAM: u32 = 1;
 
-
 fn copy_levels(from: &[i32], to: &mut [i32])
     requires { ⌜ length (now from) ≤ length (now to) ⌝ }
 {
