@@ -22,6 +22,13 @@ pub record Result : Type 0 where
   pub answer : Answer
   pub lent : Lent
 
+-- the arguments of a call as what is lent
+abbrev pub lentOf : List ℤ → List ℕ → List Float → List Float → Lent
+lentOf levels choices rowA rowB = record { levels = levels; choices = choices; rowA = rowA; rowB = rowB }
+
+abbrev pub resultOf : Answer → List ℤ → List ℕ → List Float → List Float → Result
+resultOf answer levels choices rowA rowB = record { answer = answer; lent = lentOf levels choices rowA rowB }
+
 -- all of the working room, surplus included, at its fixed values
 unfoldable pub cleared : Lent → Lent
 cleared l =

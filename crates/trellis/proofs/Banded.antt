@@ -12,7 +12,7 @@ use lib.Ieee.{Float, inf}
 use Rattle.block.specs.Band.{halfWidth}
 use Rattle.block.specs.Block.{Block, covered}
 use Rattle.block.specs.Checks.{blockRefusal, states, trellisRoom}
-use Rattle.block.specs.Outcome.{Lent, Result, cleared, refused}
+use Rattle.block.specs.Outcome.{Lent, Result, cleared, refused, lentOf, resultOf}
 use Rattle.block.specs.declared.Answer.{Answer}
 use Rattle.block.specs.declared.Answer.the-variants.{Refused}
 use Rattle.block_checks.proofs.Laws.{refused-book, refused-block, refused-room}
@@ -23,8 +23,9 @@ use Rattle.steps.specs.Plan.{Planned, Coded}
 use Rattle.steps.specs.declared.reading.Plan.{Plan}
 use Rattle.weights.specs.declared.Window.{Window}
 use Rattle.weights.specs.Window.{windowOf}
-use Rattle.trellis.specs.Rows.{windowLength, Checked, FoundIn, Done}
-use Rattle.trellis.specs.Outcome.{answered, written, refusal, bandedOutcome, lentOf, resultOf}
+use Rattle.trellis_table.specs.Rows.{windowLength, Checked}
+use Rattle.trellis.specs.Walk.{FoundIn, Done}
+use Rattle.trellis.specs.Outcome.{answered, written, refusal, bandedOutcome}
 use Rattle.trellis.specs.declared.search.Found.{Found}
 
 -- what check 14 lets pass

@@ -14,8 +14,8 @@ use lib.Ieee.Scale.{finite}
 use Rattle.block.specs.Band.{halfWidth, positionsFrom, pastWindow, tailOf, problemOf}
 use Rattle.block.specs.Block.{Block, withLevels, covered, inputFrom, inputRemaining}
 use Rattle.block.specs.Checks.{blockRefusal, trellisRoom}
-use Rattle.block.specs.Choice.{windowLevels, IsChoice}
-use Rattle.block.specs.Outcome.{Lent, Result, cleared, refused, RefusedKeeps}
+use Rattle.block.specs.Choice.{windowLevels, IsChoice, inWindow}
+use Rattle.block.specs.Outcome.{Lent, Result, cleared, refused, RefusedKeeps, resultOf}
 use Rattle.block.specs.declared.Answer.{Answer}
 use Rattle.block.specs.declared.Answer.the-variants.{Cost, Refused}
 use Rattle.block_checks.proofs.Laws.{passed}
@@ -30,9 +30,9 @@ use Rattle.problem.proofs.Written.{put-window, put-choice}
 use Rattle.problem.specs.Tokens.{needsInfinite}
 use Rattle.scan.specs.Scan.{put}
 use Rattle.weights.specs.Window.{windowOf}
-use Rattle.trellis.specs.Demand.{inWindow, RefusedExactly, LeastCost, LeastAnswered}
-use Rattle.trellis.specs.Outcome.{answered, written, refusal, bandedOutcome, resultOf}
-use Rattle.trellis.specs.Rows.{windowLength, problem}
+use Rattle.trellis.specs.Demand.{RefusedExactly, LeastCost, LeastAnswered}
+use Rattle.trellis.specs.Outcome.{answered, written, refusal, bandedOutcome}
+use Rattle.trellis_table.specs.Rows.{windowLength, problem}
 use Rattle.trellis.proofs.Main.{refused-exactly, answers-least}
 
 -- the levels with those of a least choice written through the scan

@@ -26,7 +26,7 @@ use Rattle.problem.specs.Tokens.{needsInfinite}
 use Rattle.problem.proofs.Main.{trellis-found, trellis-refused}
 use Rattle.problem.proofs.Problem.{sound}
 use Rattle.weights.specs.Window.{windowOf}
-use Rattle.trellis.specs.Rows.{problem}
+use Rattle.trellis_table.specs.Rows.{problem}
 use Rattle.trellis.specs.Outcome.{answered}
 
 module _ (book : Book) (ok : bookRefusal book ≡ 0) (b : Block) (passes : blockRefusal (windowOf (covered b)) b 0 ≡ 0) where

@@ -16,7 +16,7 @@ use Rattle.steps.specs.Plan.{Planned}
 use Rattle.steps.specs.declared.reading.Plan.{Plan}
 use Rattle.weights.specs.Window.{windowOf}
 use Rattle.weights.specs.declared.Window.{Window}
-use Rattle.trellis.specs.Rows.{tail, TailRow}
+use Rattle.trellis_table.specs.Rows.{tail, TailRow}
 
 pub two-long : (row : List Float) (x y : Float) → length (set (set row 0 x) 1 y) ≡ length row
 two-long row x y = length-set (set row 0 x) 1 y ∙ length-set row 0 x

@@ -34,10 +34,11 @@ use Rattle.steps.specs.Plan.{Planned, Lists, Readable, Spotted, Usable, listed}
 use Rattle.steps.specs.declared.reading.Plan.{Plan}
 use Rattle.steps.specs.declared.reading.Spot.{Spot}
 use Rattle.weights.specs.Window.{windowOf}
-use Rattle.trellis.specs.Rows.{windowLength, tail, position, positions, leastCount, Checked, ChosenFrom, Walkable, walked}
-use Rattle.trellis.specs.declared.position.Counts.{Counts}
-use Rattle.trellis.proofs.Steps.{passed-block, window-is, readable-here, positions-cons, priced-cons, within-counts, narrow, remaining-step, remaining-few, past-few, level-current}
-use Rattle.trellis.proofs.Totals.{bit-few}
+use Rattle.trellis_table.specs.Rows.{windowLength, tail, position, positions, leastCount, Checked, ChosenFrom}
+use Rattle.trellis.specs.Walk.{Walkable, walked}
+use Rattle.trellis_table.specs.declared.position.Counts.{Counts}
+use Rattle.trellis_table.proofs.Steps.{passed-block, window-is, readable-here, positions-cons, priced-cons, within-counts, narrow, remaining-step, remaining-few, past-few, level-current}
+use Rattle.trellis_table.proofs.Totals.{bit-few}
 
 -- ---- one step of the recursion, at a state of finite cost
 module _ (t : Tail) (q : Position) (qs : List Position) (Q : AllPriced t (q ∷ qs)) (r p : ℕ) (P : p ≤ 1) (F : T (finite (best t (q ∷ qs) r p))) where

@@ -25,11 +25,12 @@ use Rattle.block.specs.declared.Answer.the-variants.{Cost, Refused}
 use Rattle.steps.specs.Plan.{Planned, Whole}
 use Rattle.steps.specs.declared.reading.Plan.{Plan}
 use Rattle.weights.specs.Window.{windowOf}
-use Rattle.trellis.specs.Rows.{windowLength, problem, tail, positions, walked, Checked, RowAt, Rowed, Walkable, Done}
+use Rattle.trellis_table.specs.Rows.{windowLength, problem, tail, positions, Checked, RowAt, Rowed}
+use Rattle.trellis.specs.Walk.{walked, Walkable, Done}
 use Rattle.trellis.specs.Outcome.{answered, written}
 use Rattle.trellis.specs.declared.search.Found.{Found}
-use Rattle.trellis.specs.declared.position.Step.{Step}
-use Rattle.trellis.proofs.Steps.{passed-block, window-is, remaining-few}
+use Rattle.trellis_table.specs.declared.position.Step.{Step}
+use Rattle.trellis_table.proofs.Steps.{passed-block, window-is, remaining-few}
 
 pub still-long : {m n : ℕ} → m ≡ n → 28 ≤ n → 28 ≤ m
 still-long e h = rw e h

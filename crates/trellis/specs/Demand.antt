@@ -9,7 +9,7 @@ use lib.Ieee.{Float, le, lt}
 use lib.Ieee.Scale.{finite}
 use Rattle.block.specs.Band.{halfWidth}
 use Rattle.block.specs.Block.{Block, withLevels, covered, inputRemaining}
-use Rattle.block.specs.Choice.{windowLevels, IsChoice}
+use Rattle.block.specs.Choice.{IsChoice, inWindow}
 use Rattle.block.specs.Outcome.{Lent}
 use Rattle.block.specs.declared.Answer.{Answer}
 use Rattle.block.specs.declared.Answer.the-variants.{Cost, Refused}
@@ -18,11 +18,7 @@ use Rattle.prices.specs.Book.{Book}
 use Rattle.problem.specs.Tokens.{needsInfinite}
 use Rattle.weights.specs.Window.{windowOf}
 use Rattle.trellis.specs.Outcome.{refusal}
-use Rattle.trellis.specs.Rows.{problem}
-
--- of a block's levels, those in the window
-abbrev pub inWindow : Block → List ℤ → List ℤ
-inWindow b levels = windowLevels (windowOf (covered b)) b levels
+use Rattle.trellis_table.specs.Rows.{problem}
 
 -- Refused with 15 exactly when no check of 1 to 14 refuses and every choice in the band needs a token of infinite price.
 abbrev pub RefusedExactly : Book → Block → Lent → Answer → Type 0

@@ -16,7 +16,7 @@ use Rattle.block.specs.declared.Answer.the-variants.{Cost, Refused}
 use Rattle.least_cost.specs.Search.{leastTotal, leastCount, leastLevels}
 use Rattle.prices.specs.Book.{Book}
 use Rattle.scan.specs.Scan.{put}
-use Rattle.trellis.specs.Rows.{windowLength, problem}
+use Rattle.trellis_table.specs.Rows.{windowLength, problem}
 
 -- the least cost in the band and its count, or 15 where it is infinite
 unfoldable pub answered : Book → Block → Answer
@@ -40,10 +40,3 @@ bandedOutcome book b l =
     cond (eqb (refusal book b l) 0)
     (record { answer = answered book b; lent = cleared (record { levels = written book b; choices = l .choices; rowA = l .rowA; rowB = l .rowB }) })
     (refused (refusal book b l) l)
-
--- the arguments of a call as what is lent
-abbrev pub lentOf : List ℤ → List ℕ → List Float → List Float → Lent
-lentOf levels choices rowA rowB = record { levels = levels; choices = choices; rowA = rowA; rowB = rowB }
-
-abbrev pub resultOf : Answer → List ℤ → List ℕ → List Float → List Float → Result
-resultOf answer levels choices rowA rowB = record { answer = answer; lent = lentOf levels choices rowA rowB }

@@ -1,7 +1,4 @@
 // The count-banded trellis: a least-cost choice of levels in the band.
-mod count;
-mod exchange;
-mod position;
 mod search;
 mod walk;
 
@@ -11,10 +8,10 @@ use block::Shape;
 use weights::Settings;
 ghost use mathlib.Core.Path.{_≡_};
 ghost use Rattle.block.specs.Block.{blockOf};
-ghost use Rattle.block.specs.Outcome.{RefusedKeeps};
+ghost use Rattle.block.specs.Outcome.{RefusedKeeps, lentOf, resultOf};
 ghost use Rattle.prices.specs.Book.{bookOf};
 ghost use Rattle.trellis.specs.Demand.{RefusedExactly, LeastAnswered};
-ghost use Rattle.trellis.specs.Outcome.{bandedOutcome, lentOf, resultOf};
+ghost use Rattle.trellis.specs.Outcome.{bandedOutcome};
 
 // Writes the levels of a least-cost choice in the band, and answers its cost and its count of nonzero levels from scan position c on; or
 // refuses with 15 where every choice there needs a token of infinite price. Both ways the choice bytes end as 255 and the rows as

@@ -1,12 +1,12 @@
 // The whole search of a block that passed its checks.
-use crate::count;
-use crate::exchange;
 use crate::walk;
 use bias::DequantBias;
 use block::Answer;
 use block::Shape;
 use steps::reading::Plan;
 use steps::tokens;
+use trellis_table::count;
+use trellis_table::exchange;
 use weights::Settings;
 ghost use mathlib.Core.Path.{_≡_};
 ghost use Prim.Native.Nat.{_+_, _*_, _≤_};
@@ -17,7 +17,8 @@ ghost use Rattle.prices.specs.Book.{bookOf};
 ghost use Rattle.prices.specs.Checks.{bookRefusal};
 ghost use Rattle.steps.specs.Plan.{Planned, Coded, Whole};
 ghost use Rattle.weights.specs.Window.{windowOf};
-ghost use Rattle.trellis.specs.Rows.{windowLength, Checked, TailRow, Kept, FoundIn, Done};
+ghost use Rattle.trellis_table.specs.Rows.{windowLength, Checked, TailRow, Kept};
+ghost use Rattle.trellis.specs.Walk.{FoundIn, Done};
 ghost use Rattle.trellis.specs.Outcome.{answered, written};
 
 // The least cost and its count, and the nonzero input levels past the window and from its first position on.

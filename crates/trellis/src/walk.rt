@@ -1,12 +1,13 @@
 // The walk from the first position on: the levels that the choices name, written through the scan.
-use crate::position;
 use steps::reading::Plan;
+use trellis_table::position;
 ghost use mathlib.Core.Path.{_≡_};
 ghost use Prim.Native.Nat.{_+_, _-_, _*_, _≤_, _<_};
 ghost use lib.ListN.{length, getD, set};
 ghost use Rattle.block.specs.Block.{covered};
 ghost use Rattle.scan.specs.Scan.{put};
-ghost use Rattle.trellis.specs.Rows.{windowLength, Walkable, walked};
+ghost use Rattle.trellis_table.specs.Rows.{windowLength};
+ghost use Rattle.trellis.specs.Walk.{Walkable, walked};
 
 // The choice at a position, for `left` remaining and `prev`.
 fn choice_at(choices: &[u8], i: usize, least: usize, left: usize, prev: usize) -> usize

@@ -2,16 +2,16 @@ use mathlib.Core.Path.{_≡_, refl, _∙_, subst⁻¹}
 use mathlib.Core.List.{List}
 use Prim.Native.Nat.{ℕ, _≤_}
 use lib.Ieee.{Float}
-use Rattle.trellis.specs.Rows.{RowAt}
+use Rattle.trellis_table.specs.Rows.{RowAt}
 use Rattle.trellis.proofs.Whole.{whole-past, window-fits, scan-few, scan-long, window-some, still-long, live-stands, live-room, from-first}
 use borrow.Author.Needs.{needs}
 use Rattle.trellis.proofs.search.search.Statement.{statement}
 use Rattle.trellis.proofs.search.search.Tie as tie
 use Rattle.trellis.proofs.search.search.Reads as reads
 use Rattle.trellis.proofs.search.search.Lts as lts
-use Rattle.trellis.proofs.count.best_count.Reads as best-count-reads
-use Rattle.trellis.proofs.exchange.live_row.Reads as live-row-reads
-use Rattle.trellis.proofs.exchange.take_positions.Reads as take-positions-reads
+use Rattle.trellis_table.proofs.count.best_count.Reads as best-count-reads
+use Rattle.trellis_table.proofs.exchange.live_row.Reads as live-row-reads
+use Rattle.trellis_table.proofs.exchange.take_positions.Reads as take-positions-reads
 use Rattle.trellis.proofs.search.start_row.Reads as start-row-reads
 
 start-row-requires : tie.Need-start-row-requires

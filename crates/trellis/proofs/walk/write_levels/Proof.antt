@@ -4,10 +4,11 @@ use Prim.Native.Nat.{ℕ, suc, _+_, _-_, _*_, _≤_, _<_, zero-le}
 use native.Mathlib.Omega.{arith}
 use lib.IntN.{ℤ, pos}
 use lib.ListN.{length, getD, set, length-set}
-use Rattle.trellis.specs.Rows.{windowLength, Walkable}
+use Rattle.trellis_table.specs.Rows.{windowLength}
+use Rattle.trellis.specs.Walk.{Walkable}
 use Rattle.trellis.proofs.Walking.{WalkedTo, walk-starts, walked-on, walk-ends, levels-length, in-window, past-window, readable-now, input-some, state-here, left-few, index-below, level-left}
-use Rattle.trellis.proofs.Totals.{covered-few}
-use Rattle.trellis.proofs.Steps.{base-few, position-few, window-is, window-few}
+use Rattle.trellis_table.proofs.Totals.{covered-few}
+use Rattle.trellis_table.proofs.Steps.{base-few, position-few, window-is, window-few}
 use borrow.Author.Needs.{needs}
 use Rattle.trellis.proofs.walk.write_levels.Statement.{statement}
 use Rattle.trellis.proofs.walk.write_levels.Tie as tie
@@ -16,7 +17,7 @@ use Rattle.trellis.proofs.walk.write_levels.Lts as lts
 use Rattle.steps.proofs.nonzero.Reads as nonzero-reads
 use Rattle.steps.proofs.reading.Plan.spot.Reads as spot-reads
 use Rattle.steps.proofs.tokens.first_prev.Reads as first-prev-reads
-use Rattle.trellis.proofs.position.least_count.Reads as least-count-reads
+use Rattle.trellis_table.proofs.position.least_count.Reads as least-count-reads
 use Rattle.trellis.proofs.walk.choice_at.Reads as choice-at-reads
 use Rattle.steps.proofs.write_level.Reads as write-level-reads
 

@@ -1,0 +1,129 @@
+use mathlib.Core.Path.{_≡_, refl, ap}
+use Prim.Native.Nat.{ℕ, _+_, _-_, _≤_, zero-le}
+use native.Mathlib.Omega.{arith}
+use Rattle.beam.specs.Held.{Walkable}
+use Rattle.beam.proofs.Taking.{base-few, position-few, window-few}
+use Rattle.beam.proofs.Walking.{WalkedTo, covered-few, in-window, past-window, walk-starts, levels-length, path-few, readable-on, index-below, walked-on, walk-ends}
+use borrow.Author.Needs.{needs}
+use Rattle.beam.proofs.walk.write_levels.Statement.{statement}
+use Rattle.beam.proofs.walk.write_levels.Tie as tie
+use Rattle.beam.proofs.walk.write_levels.Reads as reads
+use Rattle.beam.proofs.walk.write_levels.Lts as lts
+use Rattle.beam.proofs.walk.choice_at.Reads as choice-at-reads
+use Rattle.steps.proofs.nonzero.Reads as nonzero-reads
+use Rattle.steps.proofs.reading.Plan.spot.Reads as spot-reads
+use Rattle.steps.proofs.tokens.first_prev.Reads as first-prev-reads
+use Rattle.steps.proofs.write_level.Reads as write-level-reads
+
+abbrev Inv-loop : tie.InvT-loop
+Inv-loop scan source inv-qm levels₀ plan choices first count covered prev₀ path₀ i₀ i-end levels prev path i =
+    ((w : Walkable scan source inv-qm levels₀ plan choices first count) → WalkedTo w i levels path prev) × ((covered ≡ plan .covered) × ((i-end ≡ plan .window .length) × (i ≤ i-end)))
+
+abbrev μ-loop : tie.MeasureT-loop
+μ-loop scan source inv-qm levels₀ plan choices first count covered prev₀ path₀ i₀ i-end levels prev path i =
+    i-end - i
+
+first-prev-requires : tie.Need-first-prev-requires Inv-loop μ-loop
+first-prev-requires c κs = covered-few (c .before .before .before .before .before .pre)
+
+loop-holds : tie.Need-loop-holds Inv-loop μ-loop
+loop-holds c = ((λ w. walk-starts w (c .first-prev .ensures)), (refl, (refl, zero-le)))
+
+spot-requires : tie.Need-spot-requires Inv-loop μ-loop
+spot-requires c κs =
+    let w = c .before .before .before .before .before .before .before .before .before .pre in
+    let inv = c .before .before .loop .inv in
+    let h = in-window w (c .before .loop-test .taken) (inv .1 .1 .0) in
+    (readable-on w (inv .0 w) h, (base-few (w .checked), position-few (w .checked) _ h))
+
+choice-at-requires : tie.Need-choice-at-requires Inv-loop μ-loop
+choice-at-requires c κs =
+    let w = c .before .before .before .before .before .before .before .before .before .before .before .pre in
+    let inv = c .before .before .before .before .loop .inv in
+    let h = in-window w (c .before .before .before .loop-test .taken) (inv .1 .1 .0) in
+    let few = window-few (w .checked) in
+    ((omega arith, omega (arith, w .room)), (path-few w (inv .0 w) h, inv .0 w .bit))
+
+mul-level : tie.Need-mul-level Inv-loop μ-loop
+mul-level c =
+    let w = c .before .before .before .before .before .before .before .before .before .before .before .before .pre in
+    let inv = c .before .before .before .before .before .loop .inv in
+    let h = in-window w (c .before .before .before .before .loop-test .taken) (inv .1 .1 .0) in
+    let below = index-below w (inv .0 w) h (c .before .before .spot .ensures .0) (c .before .before .spot .ensures .1) (c .choice-at .ensures) in
+    let five = c .before .before .spot .ensures .1 .few in
+    record { fits = omega arith }
+
+element-copy-out-level : tie.Need-element-copy-out-level Inv-loop μ-loop
+element-copy-out-level c =
+    let w = c .before .before .before .before .before .before .before .before .before .before .before .before .pre in
+    let inv = c .before .before .before .before .before .loop .inv in
+    let h = in-window w (c .before .before .before .before .loop-test .taken) (inv .1 .1 .0) in
+    let below = index-below w (inv .0 w) h (c .before .before .spot .ensures .0) (c .before .before .spot .ensures .1) (c .choice-at .ensures) in
+    let five = c .before .before .spot .ensures .1 .few in
+    omega (arith, c .before .before .spot .ensures .1 .five)
+
+add-write-level : tie.Need-add-write-level Inv-loop μ-loop
+add-write-level c =
+    let w = c .before .before .before .before .before .before .before .before .before .before .before .before .before .before .pre in
+    let inv = c .before .before .before .before .before .before .before .loop .inv in
+    let h = in-window w (c .before .before .before .before .before .before .loop-test .taken) (inv .1 .1 .0) in
+    record { fits = omega (arith, position-few (w .checked) _ h, inv .1 .0) }
+
+write-level-requires : tie.Need-write-level-requires Inv-loop μ-loop
+write-level-requires c κs =
+    let w = c .before .before .before .before .before .before .before .before .before .before .before .before .before .before .pre in
+    let inv = c .before .before .before .before .before .before .before .loop .inv in
+    let h = in-window w (c .before .before .before .before .before .before .loop-test .taken) (inv .1 .1 .0) in
+    let R = readable-on w (inv .0 w) h in
+    (rw (inv .1 .0) (R .scanned), rw (inv .1 .0) (R .levelled))
+
+nonzero-requires : tie.Need-nonzero-requires Inv-loop μ-loop
+nonzero-requires c κs = search needs
+
+add-i : tie.Need-add-i Inv-loop μ-loop
+add-i c =
+    let w = c .before .before .before .before .before .before .before .before .before .before .before .before .before .before .before .before .before .pre in
+    let inv = c .before .before .before .before .before .before .before .before .before .before .loop .inv in
+    let h = in-window w (c .before .before .before .before .before .before .before .before .before .loop-test .taken) (inv .1 .1 .0) in
+    record { fits = omega (arith, position-few (w .checked) _ h) }
+
+loop-less : tie.Need-loop-less Inv-loop μ-loop
+loop-less c = search needs
+
+loop-again : tie.Need-loop-again Inv-loop μ-loop
+loop-again c =
+    let inv = c .before .before .before .before .before .before .before .before .before .before .loop .inv in
+    let taken = c .before .before .before .before .before .before .before .before .before .loop-test .taken in
+    let spot = c .before .before .before .before .before .before .before .spot .ensures in (
+      λ w. walked-on w (inv .0 w) (in-window w taken (inv .1 .1 .0)) (spot .0) (spot .1) (c .before .before .before .before .before .choice-at .ensures) (c .nonzero .ensures) (ap (λ (n : ℕ). n + c .before .before .before .before .before .before .before .before .before .before .loop .i) (inv .1 .0)) (c .before .before .write-level .ensures),
+      (inv .1 .0, (inv .1 .1 .0, omega arith)),
+    )
+
+same-length : tie.Need-same-length Inv-loop μ-loop
+same-length c = levels-length _ (c .before .loop .inv .0 (c .before .before .before .before .before .before .before .before .pre))
+
+returns : tie.Need-returns Inv-loop μ-loop
+returns c =
+    let inv = c .before .loop .inv in
+    λ w. walk-ends w (inv .0 w) (past-window w (c .loop-test .left) (inv .1 .1 .0))
+
+pub write-levels-spec : {M : Type 1} → statement M
+write-levels-spec =
+    tie.close
+    (tie.spec
+    Inv-loop
+    μ-loop
+    first-prev-requires
+    loop-holds
+    spot-requires
+    choice-at-requires
+    mul-level
+    element-copy-out-level
+    add-write-level
+    write-level-requires
+    nonzero-requires
+    add-i
+    loop-less
+    loop-again
+    same-length
+    returns)

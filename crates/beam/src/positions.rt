@@ -1,0 +1,98 @@
+// The positions from the last to the first: the paths of each, and its six choice bytes.
+use beam_row::Paths;
+use steps::reading::Plan;
+ghost use mathlib.Core.Path.{_≡_};
+ghost use Prim.Native.Nat.{suc, _+_, _*_, _≤_, _<_};
+ghost use lib.ListN.{length};
+ghost use Rattle.beam_row.specs.Held.{PathsFor};
+ghost use Rattle.prices.specs.Book.{bookOf};
+ghost use Rattle.beam.specs.Beam.{windowLength};
+ghost use Rattle.beam.specs.Held.{Searched, paths, Stored, Stepped, Reached};
+
+// Three paths, each with a choice for either `prev`.
+pub(crate) const BEAM_STRIDE: usize = 6;
+
+fn store(choices: &mut [u8], at: usize, six: [u8; 6])
+    requires { ⌜ (at ≤ 65536) × (at + 6 ≤ length (now choices)) ⌝ }
+    ensures { λ _. ⌜ Stored at six (now (choices .entry)) (now (choices .exit)) ⌝ }
+{
+    for j in 0..BEAM_STRIDE {
+        choices[at + j] = six[j];
+    }
+}
+
+// `behind` are the paths of the position after it.
+fn take_position(
+    clusters: u32,
+    map: &[u8],
+    configs: &[u8],
+    symbols: &[f32],
+    ready: &[f32],
+    scan: &[u32],
+    source: &[f32],
+    inv_qm: &[f32],
+    levels: &[i32],
+    plan: Plan,
+    i: usize,
+    behind: Paths,
+    choices: &mut [u8],
+) -> Paths
+    requires { ⌜ Searched (bookOf clusters (now map) (now configs) (now symbols) (now ready)) (now scan) (now source) (now «inv_qm») (now levels) plan ⌝ }
+    requires { ⌜ ((w : Searched (bookOf clusters (now map) (now configs) (now symbols) (now ready)) (now scan) (now source) (now «inv_qm») (now levels) plan)
+        → (i < windowLength (w .block)) × PathsFor (paths (bookOf clusters (now map) (now configs) (now symbols) (now ready)) (w .block) (suc i)) behind) ⌝ }
+    requires { ⌜ 6 * i + 6 ≤ length (now choices) ⌝ }
+    ensures { λ r. ⌜ ((w : Searched (bookOf clusters (now (map .entry)) (now (configs .entry)) (now (symbols .entry)) (now (ready .entry))) (now (scan .entry)) (now (source .entry)) (now («inv_qm» .entry)) (now (levels .entry)) plan)
+        → Stepped (bookOf clusters (now (map .entry)) (now (configs .entry)) (now (symbols .entry)) (now (ready .entry))) (w .block) i (now (choices .entry)) (now (choices .exit)) r) ⌝ }
+{
+    let spot = plan.spot(scan, source, inv_qm, levels, i);
+    let step = beam_row::take_step(clusters, map, configs, symbols, ready, spot, behind);
+    let bytes = step.choices;
+    store(choices, BEAM_STRIDE * i, bytes);
+    step.paths
+}
+
+pub(crate) fn take_positions(
+    clusters: u32,
+    map: &[u8],
+    configs: &[u8],
+    symbols: &[f32],
+    ready: &[f32],
+    scan: &[u32],
+    source: &[f32],
+    inv_qm: &[f32],
+    levels: &[i32],
+    plan: Plan,
+    start: Paths,
+    choices: &mut [u8],
+) -> Paths
+    requires { ⌜ Searched (bookOf clusters (now map) (now configs) (now symbols) (now ready)) (now scan) (now source) (now «inv_qm») (now levels) plan ⌝ }
+    requires { ⌜ ((w : Searched (bookOf clusters (now map) (now configs) (now symbols) (now ready)) (now scan) (now source) (now «inv_qm») (now levels) plan)
+        → PathsFor (paths (bookOf clusters (now map) (now configs) (now symbols) (now ready)) (w .block) (windowLength (w .block))) start) ⌝ }
+    requires { ⌜ 6 * plan .window .length ≤ length (now choices) ⌝ }
+    ensures { λ r. ⌜ length (now (choices .exit)) ≡ length (now (choices .entry)) ⌝ }
+    ensures { λ r. ⌜ ((w : Searched (bookOf clusters (now (map .entry)) (now (configs .entry)) (now (symbols .entry)) (now (ready .entry))) (now (scan .entry)) (now (source .entry)) (now («inv_qm» .entry)) (now (levels .entry)) plan)
+        → Reached (bookOf clusters (now (map .entry)) (now (configs .entry)) (now (symbols .entry)) (now (ready .entry))) (w .block) 0 (now (choices .exit)) r) ⌝ }
+{
+    let window = plan.window;
+    let mut paths = start;
+    let mut i = window.length;
+    while 0 < i {
+        i -= 1;
+        paths = take_position(
+            clusters,
+            map,
+            configs,
+            symbols,
+            ready,
+            scan,
+            source,
+            inv_qm,
+            levels,
+            plan,
+            i,
+            paths,
+            choices,
+        );
+    }
+    paths
+}

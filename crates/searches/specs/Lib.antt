@@ -1,0 +1,2 @@
+-- One call over the searches.
+pub mod Outcome

@@ -1,0 +1,151 @@
+// One call over the three searches.
+use bias::DequantBias;
+use block::Answer;
+use block::Shape;
+use weights::Settings;
+ghost use mathlib.Core.Path.{_≡_};
+ghost use Rattle.block.specs.Block.{blockOf};
+ghost use Rattle.block.specs.Outcome.{RefusedKeeps, lentOf, resultOf};
+ghost use Rattle.prices.specs.Book.{bookOf};
+ghost use Rattle.searches.specs.Outcome.{beamResult, searchOutcome, wasSearched};
+
+// Which search.
+pub enum Search {
+    Greedy,
+    Beam,
+    Trellis,
+}
+
+// Whether the beam searched: no check of 1 to 14 refused.
+fn was_searched(answer: Answer) -> bool
+    ensures { λ r. ⌜ r ≡ wasSearched answer ⌝ }
+{
+    match answer {
+        Answer::Cost { .. } => true,
+        Answer::Count(_) => true,
+        Answer::Refused(number) => number == 16,
+    }
+}
+
+// The beam, with rows that it does not use but clears.
+fn beam_with_rows(
+    clusters: u32,
+    map: &[u8],
+    configs: &[u8],
+    symbols: &[f32],
+    ready: &[f32],
+    shape: Shape,
+    settings: Settings,
+    bias: DequantBias,
+    scale: f32,
+    scan: &[u32],
+    source: &[f32],
+    inv_qm: &[f32],
+    levels: &mut [i32],
+    choices: &mut [u8],
+    row_a: &mut [f32],
+    row_b: &mut [f32],
+) -> Answer
+    ensures { λ r. ⌜ resultOf r (now (levels .exit)) (now (choices .exit)) (now («row_a» .exit)) (now («row_b» .exit)) ≡ beamResult (bookOf clusters (now (map .entry)) (now (configs .entry)) (now (symbols .entry)) (now (ready .entry))) (blockOf shape settings bias scale (now (scan .entry)) (now (source .entry)) (now («inv_qm» .entry)) (now (levels .entry))) (lentOf (now (levels .entry)) (now (choices .entry)) (now («row_a» .entry)) (now («row_b» .entry))) ⌝ }
+    ensures { λ r. ⌜ RefusedKeeps (blockOf shape settings bias scale (now (scan .entry)) (now (source .entry)) (now («inv_qm» .entry)) (now (levels .entry))) (now (levels .exit)) r ⌝ }
+{
+    let answer = beam::rdoq_block_beam(
+        clusters,
+        map,
+        configs,
+        symbols,
+        ready,
+        shape,
+        settings,
+        bias,
+        scale,
+        scan,
+        source,
+        inv_qm,
+        levels,
+        choices,
+    );
+    if was_searched(answer) {
+        rooms::clear_row(row_a);
+        rooms::clear_row(row_b);
+    }
+    answer
+}
+
+// Re-picks the levels of a block by the search that is named.
+pub fn rdoq_block(
+    search: Search,
+    clusters: u32,
+    map: &[u8],
+    configs: &[u8],
+    symbols: &[f32],
+    ready: &[f32],
+    shape: Shape,
+    settings: Settings,
+    bias: DequantBias,
+    scale: f32,
+    scan: &[u32],
+    source: &[f32],
+    inv_qm: &[f32],
+    levels: &mut [i32],
+    choices: &mut [u8],
+    row_a: &mut [f32],
+    row_b: &mut [f32],
+) -> Answer
+    ensures { λ r. ⌜ resultOf r (now (levels .exit)) (now (choices .exit)) (now («row_a» .exit)) (now («row_b» .exit)) ≡ searchOutcome search (bookOf clusters (now (map .entry)) (now (configs .entry)) (now (symbols .entry)) (now (ready .entry))) (blockOf shape settings bias scale (now (scan .entry)) (now (source .entry)) (now («inv_qm» .entry)) (now (levels .entry))) (lentOf (now (levels .entry)) (now (choices .entry)) (now («row_a» .entry)) (now («row_b» .entry))) ⌝ }
+    ensures { λ r. ⌜ RefusedKeeps (blockOf shape settings bias scale (now (scan .entry)) (now (source .entry)) (now («inv_qm» .entry)) (now (levels .entry))) (now (levels .exit)) r ⌝ }
+{
+    match search {
+        Search::Greedy => greedy::rdoq_block_greedy(
+            clusters,
+            map,
+            configs,
+            symbols,
+            ready,
+            shape,
+            settings,
+            bias,
+            scale,
+            scan,
+            source,
+            inv_qm,
+            levels,
+        ),
+        Search::Beam => beam_with_rows(
+            clusters,
+            map,
+            configs,
+            symbols,
+            ready,
+            shape,
+            settings,
+            bias,
+            scale,
+            scan,
+            source,
+            inv_qm,
+            levels,
+            choices,
+            row_a,
+            row_b,
+        ),
+        Search::Trellis => trellis::rdoq_block_banded(
+            clusters,
+            map,
+            configs,
+            symbols,
+            ready,
+            shape,
+            settings,
+            bias,
+            scale,
+            scan,
+            source,
+            inv_qm,
+            levels,
+            choices,
+            row_a,
+            row_b,
+        ),
+    }
+}

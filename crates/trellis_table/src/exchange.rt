@@ -1,0 +1,126 @@
+// The positions from the last to the first, over two rows that take turns.
+use crate::position;
+use crate::position::Counts;
+use crate::position::Step;
+use bias::DequantBias;
+use block::Shape;
+use steps::reading::Plan;
+use weights::Settings;
+ghost use mathlib.Core.Path.{_≡_};
+ghost use mathlib.Core.Bool.{true, cond};
+ghost use Prim.Native.Nat.{_+_, _*_, _≤_};
+ghost use lib.ListN.{length};
+ghost use Rattle.block.specs.Block.{blockOf, covered, inputRemaining};
+ghost use Rattle.block.specs.Band.{pastWindow};
+ghost use Rattle.prices.specs.Book.{bookOf};
+ghost use Rattle.weights.specs.Window.{windowOf};
+ghost use Rattle.trellis_table.specs.Rows.{windowLength, Checked, TailRow, Rowed, Kept};
+
+// Where the costs of the first position stand, and for which counts.
+pub struct Last {
+    pub step: Step,
+    pub in_first: bool,
+}
+
+// The row that holds the costs of the first position, after the last exchange.
+pub fn live_row<'a>(first: &'a [f32], second: &'a [f32], in_first: bool) -> &'a [f32]
+    ensures { λ r. ⌜ now r ≡ cond «in_first» (now (first .entry)) (now (second .entry)) ⌝ }
+{
+    if in_first { first } else { second }
+}
+
+pub fn take_positions(
+    clusters: u32,
+    map: &[u8],
+    configs: &[u8],
+    symbols: &[f32],
+    ready: &[f32],
+    shape: Shape,
+    settings: Settings,
+    bias: DequantBias,
+    scale: f32,
+    scan: &[u32],
+    source: &[f32],
+    inv_qm: &[f32],
+    levels: &[i32],
+    plan: Plan,
+    past: usize,
+    first: &mut [f32],
+    second: &mut [f32],
+    choices: &mut [u8],
+) -> Last
+    requires { ⌜ Checked (bookOf clusters (now map) (now configs) (now symbols) (now ready)) (blockOf shape settings bias scale (now scan) (now source) (now «inv_qm») (now levels)) plan ⌝ }
+    requires { ⌜ past ≡ pastWindow (windowOf (covered (blockOf shape settings bias scale (now scan) (now source) (now «inv_qm») (now levels)))) (blockOf shape settings bias scale (now scan) (now source) (now «inv_qm») (now levels)) ⌝ }
+    requires { ⌜ TailRow (bookOf clusters (now map) (now configs) (now symbols) (now ready)) (blockOf shape settings bias scale (now scan) (now source) (now «inv_qm») (now levels)) past (now first) ⌝ }
+    requires { ⌜ (28 ≤ length (now first)) × ((28 ≤ length (now second)) × (28 * windowLength (blockOf shape settings bias scale (now scan) (now source) (now «inv_qm») (now levels)) ≤ length (now choices))) ⌝ }
+    ensures { λ r. ⌜ Rowed (bookOf clusters (now (map .entry)) (now (configs .entry)) (now (symbols .entry)) (now (ready .entry))) (blockOf shape settings bias scale (now (scan .entry)) (now (source .entry)) (now («inv_qm» .entry)) (now (levels .entry))) 0 (now (first .exit)) (now (second .exit)) (now (choices .exit)) (r .step) (r .«in_first») ⌝ }
+    ensures { λ r. ⌜ Kept (now (first .entry)) (now (first .exit)) (now (second .entry)) (now (second .exit)) (now (choices .entry)) (now (choices .exit)) ⌝ }
+{
+    let window = plan.window;
+    let mut step = Step {
+        counts: Counts {
+            least: past,
+            most: past,
+        },
+        after: past,
+    };
+    let mut in_first = true;
+    let mut i = window.length;
+    while 0 < i {
+        i -= 1;
+        let counts = step.counts;
+        let after = step.after;
+        if in_first {
+            step = position::take_position(
+                clusters,
+                map,
+                configs,
+                symbols,
+                ready,
+                shape,
+                settings,
+                bias,
+                scale,
+                scan,
+                source,
+                inv_qm,
+                levels,
+                plan,
+                past,
+                i,
+                after,
+                first,
+                counts,
+                second,
+                choices,
+            );
+            in_first = false;
+        } else {
+            step = position::take_position(
+                clusters,
+                map,
+                configs,
+                symbols,
+                ready,
+                shape,
+                settings,
+                bias,
+                scale,
+                scan,
+                source,
+                inv_qm,
+                levels,
+                plan,
+                past,
+                i,
+                after,
+                second,
+                counts,
+                first,
+                choices,
+            );
+            in_first = true;
+        }
+    }
+    Last { step, in_first }
+}
