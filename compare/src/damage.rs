@@ -39,7 +39,7 @@ fn strange(random: &mut Random) -> f32 {
 fn damage_book(random: &mut Random, book: &mut Book) {
     let spot = |random: &mut Random, n: usize| random.below(n.max(1));
     match random.below(13) {
-        0 => book.clusters = random.pick(&[0, 257, u32::MAX, book.clusters + 1, book.clusters - 1]),
+        0 => book.clusters = random.pick(&[0, 257, u32::MAX, book.clusters.wrapping_add(1), book.clusters.wrapping_sub(1)]),
         1 => resize(random, &mut book.map),
         2 => resize(random, &mut book.configs),
         3 => resize(random, &mut book.symbols),
@@ -53,7 +53,7 @@ fn damage_book(random: &mut Random, book: &mut Book) {
         7 | 8 => {
             let at = spot(random, book.configs.len());
             if let Some(entry) = book.configs.get_mut(at) {
-                *entry = random.pick(&[7, 6, 5, 3, 255, *entry + 1]);
+                *entry = random.pick(&[7, 6, 5, 3, 255, entry.wrapping_add(1)]);
             }
         }
         9 | 10 => {
@@ -63,7 +63,7 @@ fn damage_book(random: &mut Random, book: &mut Book) {
             if let Some(entry) = book.symbols.get_mut(at) {
                 *entry = random.pick(&[price, near]);
             }
-            if random.once_in(2) && book.configs.len() == 3 * book.clusters as usize && crate::checks::book_refusal(book) == 6 {
+            if random.once_in(2) && crate::checks::book_refusal(book) == 6 {
                 crate::books::fill_ready(book);
             }
         }
@@ -88,8 +88,8 @@ fn damage_book(random: &mut Random, book: &mut Book) {
 fn damage_block(random: &mut Random, block: &mut Block) {
     let n = block.levels.len().min(block.scan.len()).min(block.source.len()).min(block.inverse.len());
     match random.below(22) {
-        0 => block.cx = random.pick(&[0, 3, 64, 33, u32::MAX, 2 * block.cx, 1 << 31]),
-        1 => block.cy = random.pick(&[0, 5, 64, 31, u32::MAX, 2 * block.cy, 1 << 16]),
+        0 => block.cx = random.pick(&[0, 3, 64, 33, u32::MAX, block.cx.wrapping_mul(2), 1 << 31]),
+        1 => block.cy = random.pick(&[0, 5, 64, 31, u32::MAX, block.cy.wrapping_mul(2), 1 << 16]),
         2 => resize(random, &mut block.levels),
         3 => resize(random, &mut block.scan),
         4 => resize(random, &mut block.source),

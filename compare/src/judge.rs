@@ -6,7 +6,23 @@ use crate::entropy::entropy_code::door::lent;
 use crate::entropy::FrozenTokenPrices;
 use crate::group::trellis::door::{run, Scratch};
 use crate::plain::{Problem, Rule};
-use std::panic::{catch_unwind, AssertUnwindSafe};
+use std::cell::Cell;
+use std::panic::{catch_unwind, set_hook, take_hook, AssertUnwindSafe};
+
+thread_local! {
+    /// A panic of the Rust is told as a difference, and not printed besides.
+    static IN_THE_RUST: Cell<bool> = const { Cell::new(false) };
+}
+
+/// Leaves the Rust's panics unprinted.
+pub fn quiet_panics() {
+    let usual = take_hook();
+    set_hook(Box::new(move |story| {
+        if !IN_THE_RUST.get() {
+            usual(story);
+        }
+    }));
+}
 
 /// What a search owes, and on whose word.
 pub struct Due {
@@ -50,9 +66,10 @@ impl Original {
         let prices = self.prices.as_ref().expect("a book that passed");
         let mut levels = block.levels.clone();
         let scratch = &mut self.scratch;
-        catch_unwind(AssertUnwindSafe(|| run(search, block, prices, &mut levels, scratch)))
-            .map_err(|_| "the Rust panicked".to_string())?;
-        Ok(levels)
+        IN_THE_RUST.set(true);
+        let ended = catch_unwind(AssertUnwindSafe(|| run(search, block, prices, &mut levels, scratch)));
+        IN_THE_RUST.set(false);
+        ended.map(|()| levels).map_err(|_| "the Rust panicked".to_string())
     }
 }
 

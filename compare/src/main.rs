@@ -254,7 +254,7 @@ fn main() -> std::process::ExitCode {
             return 2.into();
         }
     };
-    std::panic::set_hook(Box::new(|_| ()));
+    judge::quiet_panics();
     if options.power {
         power::print(&options);
         return 0.into();

@@ -2,8 +2,8 @@
 use crate::output;
 use block::Answer;
 use block_file::fields::Head;
-use rdoq::search::rdoq_block_banded;
-use rdoq::search::rdoq_block_greedy;
+use rdoq::search::rdoq_block;
+use searches::Search;
 ghost use mathlib.Core.Path.{_≡_};
 ghost use Prim.Native.Nat.{_≤_};
 ghost use lib.ListN.{length};
@@ -18,6 +18,16 @@ fn copy_levels(from: &[i32], to: &mut [i32])
     for i in 0..from.len() {
         to[i] = from[i];
     }
+}
+
+fn search_of(search: u32) -> Search {
+    if search == GREEDY {
+        return Search::Greedy;
+    }
+    if search == BEAM {
+        return Search::Beam;
+    }
+    Search::Trellis
 }
 
 fn run(
@@ -40,27 +50,8 @@ fn run(
     let settings = head.settings;
     let bias = head.bias;
     let scale = head.scale;
-    if search == GREEDY {
-        return rdoq_block_greedy(
-            clusters,
-            map,
-            configs,
-            symbols,
-            ready,
-            shape,
-            settings,
-            bias,
-            scale,
-            scan,
-            source,
-            inv_qm,
-            levels,
-        );
-    }
-    if search == BEAM {
-        return Answer::Refused(0);
-    }
-    rdoq_block_banded(
+    rdoq_block(
+        search_of(search),
         clusters,
         map,
         configs,
