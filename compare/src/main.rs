@@ -6,6 +6,7 @@ mod books;
 mod checks;
 mod damage;
 mod data;
+mod files;
 mod judge;
 mod plain;
 mod port;
@@ -38,9 +39,11 @@ pub struct Options {
     pub threads: usize,
     pub power: bool,
     pub save: Option<String>,
+    pub list: Option<String>,
+    pub files: u64,
 }
 
-const USAGE: &str = "compare [BLOCKS] [--seed S] [--classes C,C,..] [--only INDEX] [--port PROGRAM] [--without SEARCH] [--threads T] [--power] [--save FILE]";
+const USAGE: &str = "compare [BLOCKS] [--seed S] [--classes C,C,..] [--only INDEX] [--port PROGRAM] [--without SEARCH] [--threads T] [--files F] [--power] [--save FILE] [--list FOLDER]";
 
 fn options() -> Result<Options, String> {
     let mut options = Options {
@@ -53,6 +56,8 @@ fn options() -> Result<Options, String> {
         threads: std::thread::available_parallelism().map_or(1, |n| n.get()),
         power: false,
         save: None,
+        list: None,
+        files: 200,
     };
     let mut words = std::env::args().skip(1);
     while let Some(word) = words.next() {
@@ -63,6 +68,8 @@ fn options() -> Result<Options, String> {
             "--only" => options.only = Some(number(value()?)?),
             "--threads" => options.threads = number(value()?)? as usize,
             "--port" => options.port = Some(value()?),
+            "--list" => options.list = Some(value()?),
+            "--files" => options.files = number(value()?)?,
             "--save" => options.save = Some(value()?),
             "--power" => options.power = true,
             "--classes" => {
@@ -85,7 +92,7 @@ fn options() -> Result<Options, String> {
 }
 
 /// Blocks that share a book.
-fn per_book(class: usize) -> u64 {
+pub fn per_book(class: usize) -> u64 {
     match class {
         0 => 1,
         1..=4 => 40,
@@ -255,6 +262,10 @@ fn main() -> std::process::ExitCode {
         }
     };
     judge::quiet_panics();
+    if let Some(folder) = &options.list {
+        files::write_list(folder, options.seed);
+        return 0.into();
+    }
     if options.power {
         power::print(&options);
         return 0.into();
@@ -274,6 +285,9 @@ fn main() -> std::process::ExitCode {
         let name = if class == 0 { "damaged".to_string() } else { class.to_string() };
         print!("{}", report::row(&name, &tally, &options.without));
         differences += tally.searches.iter().map(|counts| counts.differences).sum::<u64>();
+    }
+    if let (Some(program), None) = (&options.port, options.only) {
+        differences += files::compare_unreadable(program, options.seed, options.files);
     }
     sound &= differences == 0;
     println!("{differences} differences; {:.1} s", start.elapsed().as_secs_f32());
