@@ -1,0 +1,140 @@
+//! Price books by seed: from prefix codes, strict or not, and hand-made ones.
+
+use crate::checks::config_passes;
+use crate::data::Book;
+use crate::entropy::prefix_code::PrefixCode;
+use crate::plain::split;
+use crate::random::Random;
+
+pub fn random_book(random: &mut Random) -> Book {
+    let clusters = match random.below(100) {
+        0..=24 => 1,
+        25..=64 => 2 + random.below(3),
+        65..=93 => 5 + random.below(12),
+        94..=97 => 17 + random.below(48),
+        98 => 256,
+        _ => 65 + random.below(192),
+    };
+    let mut book = Book { clusters: clusters as u32, ..Book::default() };
+    book.map = map(random, clusters);
+    for _ in 0..clusters {
+        book.configs.extend(config(random));
+    }
+    match random.below(10) {
+        0..=2 => prefix_book(random, &mut book, false),
+        3 => prefix_book(random, &mut book, true),
+        kind => {
+            let infinite = random.pick(&[0, 0, 0, 0, 300, 60, 12, 2]);
+            for _ in 0..128 * clusters {
+                let price = price(random, kind);
+                let none = infinite != 0 && random.once_in(infinite);
+                book.symbols.push(if none { f32::INFINITY } else { price });
+            }
+            fill_ready(&mut book);
+        }
+    }
+    if random.once_in(40) {
+        book.symbols.fill(f32::INFINITY);
+        fill_ready(&mut book);
+    }
+    book
+}
+
+fn map(random: &mut Random, clusters: usize) -> Vec<u8> {
+    match random.below(4) {
+        // One cluster for many: neighbours differ now and then.
+        0 => {
+            let mut cluster = random.below(clusters);
+            let mut next = |_| {
+                if random.once_in(50) {
+                    cluster = random.below(clusters);
+                }
+                cluster as u8
+            };
+            (0..14850).map(&mut next).collect()
+        }
+        // The two contexts of a pair in clusters of their own.
+        1 => (0..14850).map(|at| (at % 2 % clusters) as u8).collect(),
+        _ => (0..14850).map(|_| random.below(clusters) as u8).collect(),
+    }
+}
+
+/// A configuration that passes check 4.
+fn config(random: &mut Random) -> [u8; 3] {
+    if random.once_in(3) {
+        return random.pick(&[[4, 2, 0], [4, 2, 1], [6, 2, 0], [0, 0, 0]]);
+    }
+    loop {
+        let [s, m, l] = [0; 3].map(|_: u8| random.below(7) as u8);
+        if config_passes(s, m, l) {
+            return [s, m, l];
+        }
+    }
+}
+
+fn price(random: &mut Random, kind: usize) -> f32 {
+    match kind {
+        // All alike, or few whole prices: ties.
+        4 => 1.0,
+        5 => random.below(3) as f32,
+        // Anything that check 5 passes, the limits and a negative zero among it.
+        6 => match random.below(12) {
+            0 => 1024.0,
+            1 => -0.0,
+            2 => f32::from_bits(1 + random.below(100) as u32),
+            3 => random.between(0.0, 1024.0),
+            4 => 2f32.powi(-(random.below(40) as i32)),
+            _ => random.between(0.0, 4.0),
+        },
+        7 => random.below(40) as f32 / 4.0,
+        _ => random.between(0.0, 12.0),
+    }
+}
+
+/// The ready prices that check 6 asks for.
+pub fn fill_ready(book: &mut Book) {
+    book.ready.clear();
+    for (c, symbols) in book.configs.chunks(3).zip(book.symbols.chunks(128)) {
+        for value in 0..256 {
+            let (symbol, extra) = split(value, c[0].into(), c[1].into(), c[2].into());
+            book.ready.push(symbols[symbol as usize] + extra as f32);
+        }
+    }
+}
+
+/// Prices that the Rust makes from prefix codes. Strict: a symbol without a code costs +infinity.
+fn prefix_book(random: &mut Random, book: &mut Book, strict: bool) {
+    let codes: Vec<PrefixCode> = (0..book.clusters).map(|_| prefix_code(random)).collect();
+    crate::entropy::entropy_code::door::from_prefix(book, codes.clone());
+    if strict {
+        for (row, code) in book.symbols.chunks_mut(128).zip(&codes) {
+            for (price, depth) in row.iter_mut().zip(code.depths) {
+                if depth == 0 {
+                    *price = f32::INFINITY;
+                }
+            }
+        }
+        fill_ready(book);
+    }
+}
+
+/// Depths of a code that exists: each is the logarithm of total over frequency, rounded up.
+fn prefix_code(random: &mut Random) -> PrefixCode {
+    let mut depths = [0; 128];
+    if random.once_in(12) {
+        let any = random.below(128);
+        depths[random.pick(&[0, 0, 1, any])] = 1;
+        return PrefixCode { depths, single_symbol: true };
+    }
+    let used = random.pick(&[2, 4, 16, 40, 128]);
+    let spread = random.between(0.5, 6.0);
+    let frequencies: Vec<f32> = (0..used).map(|_| (random.unit() * spread).exp2()).collect();
+    // Later symbols are rarer.
+    let scale = |at: usize| 1.0 + 4.0 * at as f32 / used as f32;
+    let weights: Vec<f32> = frequencies.iter().enumerate().map(|(at, f)| f / scale(at)).collect();
+    let total: f32 = weights.iter().sum();
+    for (depth, weight) in depths.iter_mut().zip(&weights) {
+        *depth = (total / weight).log2().ceil().clamp(1.0, 15.0) as u8;
+    }
+    PrefixCode { depths, single_symbol: false }
+}

@@ -1,0 +1,131 @@
+//! A price book, a block, and their records in the block file.
+
+#[derive(Clone, Copy, PartialEq, Eq, Debug)]
+pub enum Search {
+    Greedy,
+    Beam,
+    Trellis,
+}
+
+pub const SEARCHES: [Search; 3] = [Search::Greedy, Search::Beam, Search::Trellis];
+
+#[derive(Clone, Default)]
+pub struct Book {
+    pub clusters: u32,
+    pub map: Vec<u8>,
+    pub configs: Vec<u8>,
+    pub symbols: Vec<f32>,
+    pub ready: Vec<f32>,
+}
+
+#[derive(Clone)]
+pub struct Block {
+    pub cx: u32,
+    pub cy: u32,
+    pub strategy: u8,
+    pub channel: u8,
+    pub quant_class: bool,
+    pub predicted: u8,
+    pub channel_weight: f32,
+    pub lambda: f32,
+    pub penalty: f32,
+    pub distance: f32,
+    pub one: f32,
+    pub numerator: f32,
+    pub scale: f32,
+    pub choices: u32,
+    pub rows: [u32; 2],
+    pub levels: Vec<i32>,
+    pub scan: Vec<u32>,
+    pub source: Vec<f32>,
+    pub inverse: Vec<f32>,
+}
+
+/// What a search answers, and the levels afterwards.
+#[derive(Clone, PartialEq, Eq, Debug)]
+pub struct Outcome {
+    pub reply: Reply,
+    pub levels: Vec<i32>,
+}
+
+/// The cost by its bits: equal costs have equal bits here, since none is NaN or -0.0.
+#[derive(Clone, Copy, PartialEq, Eq, Debug)]
+pub enum Reply {
+    Cost { bits: u32, count: u32 },
+    Count(u32),
+    Refused(u32),
+}
+
+impl std::fmt::Display for Reply {
+    fn fmt(&self, f: &mut std::fmt::Formatter<'_>) -> std::fmt::Result {
+        match self {
+            Reply::Cost { bits, count } => write!(f, "cost {bits:08x} count {count}"),
+            Reply::Count(count) => write!(f, "count {count}"),
+            Reply::Refused(number) => write!(f, "refused {number}"),
+        }
+    }
+}
+
+/// The length of the window and the part of it that may be restored, for c covered blocks.
+pub fn window(c: usize) -> (usize, usize) {
+    if c == 1 {
+        (63, 20)
+    } else {
+        ((64 * c).min(1024).min(63 * c), (24 * c).min(256))
+    }
+}
+
+fn words<T: Copy>(out: &mut Vec<u8>, list: &[T], bytes: impl Fn(T) -> [u8; 4]) {
+    out.extend((list.len() as u32).to_le_bytes());
+    for &x in list {
+        out.extend(bytes(x));
+    }
+}
+
+fn octets(out: &mut Vec<u8>, list: &[u8]) {
+    out.extend((list.len() as u32).to_le_bytes());
+    out.extend(list);
+}
+
+impl Book {
+    pub fn write(&self, out: &mut Vec<u8>) {
+        out.push(b'K');
+        out.extend(self.clusters.to_le_bytes());
+        octets(out, &self.map);
+        octets(out, &self.configs);
+        words(out, &self.symbols, f32::to_le_bytes);
+        words(out, &self.ready, f32::to_le_bytes);
+    }
+}
+
+impl Block {
+    pub fn covered(&self) -> usize {
+        self.cx as usize * self.cy as usize
+    }
+
+    pub fn write(&self, out: &mut Vec<u8>) {
+        out.push(b'C');
+        out.extend(self.cx.to_le_bytes());
+        out.extend(self.cy.to_le_bytes());
+        out.extend([self.strategy, self.channel, self.quant_class as u8, self.predicted]);
+        let floats = [
+            self.channel_weight,
+            self.lambda,
+            self.penalty,
+            self.distance,
+            self.one,
+            self.numerator,
+            self.scale,
+        ];
+        for x in floats {
+            out.extend(x.to_le_bytes());
+        }
+        for n in [self.choices, self.rows[0], self.rows[1]] {
+            out.extend(n.to_le_bytes());
+        }
+        words(out, &self.levels, i32::to_le_bytes);
+        words(out, &self.scan, u32::to_le_bytes);
+        words(out, &self.source, f32::to_le_bytes);
+        words(out, &self.inverse, f32::to_le_bytes);
+    }
+}

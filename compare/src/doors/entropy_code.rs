@@ -1,0 +1,38 @@
+// Price books: handed over as they are, or made from a prefix code by the Rust.
+
+use super::{FrozenTokenPrices, HybridUintConfig, OwnedEntropyCode, PrefixCode, ALPHABET_SIZE};
+use crate::data::Book;
+
+fn configs(book: &Book) -> Vec<HybridUintConfig> {
+    let of = |c: &[u8]| HybridUintConfig { s: c[0].into(), m: c[1].into(), l: c[2].into() };
+    book.configs.chunks_exact(3).map(of).collect()
+}
+
+/// The book's own prices, none worked out anew.
+pub(crate) fn lent(book: &Book) -> FrozenTokenPrices {
+    FrozenTokenPrices {
+        context_map: book.map.clone(),
+        configs: configs(book),
+        symbol_bits: book.symbols.chunks_exact(ALPHABET_SIZE).map(|row| row.try_into().unwrap()).collect(),
+        small_value_bits: book.ready.clone(),
+    }
+}
+
+/// Writes the symbol prices and the ready prices that the Rust makes from prefix codes.
+pub(crate) fn from_prefix(book: &mut Book, prefix_codes: Vec<PrefixCode>) {
+    let code = OwnedEntropyCode {
+        context_map: book.map.clone(),
+        prefix_codes,
+        hybrid_uint_configs: configs(book),
+        orig_context_map: None,
+        orig_num_contexts: 0,
+        use_prefix_code: true,
+        ans_histograms: Vec::new(),
+        ans_pricing_freqs: Vec::new(),
+        ans_symbols: Vec::new(),
+        ans_reverse_maps: Vec::new(),
+    };
+    let made = FrozenTokenPrices::new(&code);
+    book.symbols = made.symbol_bits.concat();
+    book.ready = made.small_value_bits;
+}

@@ -1,0 +1,190 @@
+//! Whole block files: those that end in a record that can't be read, and the fixed list of answers.
+
+use crate::data::{Block, Book, Search, SEARCHES};
+use crate::judge::{due, Original};
+use crate::plain::{Problem, Rule, RULES};
+use crate::random::Random;
+use crate::{blocks, books, checks, made, port, report};
+
+/// The longest lists and rooms that the program holds: map, configurations, symbol prices, ready prices; a block's lists; choice
+/// bytes and a row.
+const HELD: [usize; 4] = [14912, 774, 33024, 66048];
+const HELD_LEVELS: usize = 65600;
+const HELD_ROOMS: [u32; 2] = [28736, 64];
+
+/// The lines that are due for a block.
+fn lines(original: &mut Original, number: usize, book: &Book, block: &Block) -> String {
+    let mut text = String::new();
+    for search in SEARCHES {
+        let due = due(original, search, book, block);
+        assert!(due.fault.is_none(), "the Rust and the plain definitions part");
+        text += &format!("{number} {search:?} {}{}\n", due.outcome.reply, report::changes(block, &due.outcome.levels));
+    }
+    text
+}
+
+/// A file of a few records and one that can't be read behind them, with what is due for it.
+fn unreadable(random: &mut Random) -> (Vec<u8>, String) {
+    let (mut file, mut text) = (Vec::new(), String::new());
+    let mut original = Original::new();
+    // Before any book: a book of no bytes and 0 clusters.
+    let mut book = Book::default();
+    original.take(&book);
+    let mut number = 0;
+    for _ in 0..random.below(5) {
+        if random.once_in(3) {
+            book = books::random_book(random);
+            original.take(&book);
+            book.write(&mut file);
+        } else {
+            let block = blocks::random_block(random, 1);
+            block.write(&mut file);
+            text += &lines(&mut original, number, &book, &block);
+            number += 1;
+        }
+    }
+    let from = file.len();
+    spoilt(random, &mut file);
+    if file.len() > from {
+        text += &format!("unreadable record at byte {from}\n");
+    }
+    (file, text)
+}
+
+/// Appends a record that can't be read, or nothing.
+fn spoilt(random: &mut Random, file: &mut Vec<u8>) {
+    let from = file.len();
+    match random.below(6) {
+        0 => {}
+        1 => {
+            // Any tag but the two, and anything behind it.
+            let tag = loop {
+                let byte = random.next() as u8;
+                if byte != b'K' && byte != b'C' {
+                    break byte;
+                }
+            };
+            file.push(tag);
+            for _ in 0..random.below(2000) {
+                file.push(random.next() as u8);
+            }
+        }
+        2 => {
+            let mut book = books::random_book(random);
+            match random.below(4) {
+                0 => book.map.resize(HELD[0] + 1, 0),
+                1 => book.configs.resize(HELD[1] + 1, 0),
+                2 => book.symbols.resize(HELD[2] + 1, 0.0),
+                _ => book.ready.resize(HELD[3] + 1, 0.0),
+            }
+            book.write(file);
+        }
+        3 => {
+            let mut block = blocks::random_block(random, 1);
+            match random.below(7) {
+                0 => block.levels.resize(HELD_LEVELS + 1, 0),
+                1 => block.scan.resize(HELD_LEVELS + 1, 0),
+                2 => block.source.resize(HELD_LEVELS + 1, 0.0),
+                3 => block.inverse.resize(HELD_LEVELS + 1, 0.0),
+                4 => block.choices = HELD_ROOMS[0] + 1,
+                5 => block.rows[0] = HELD_ROOMS[1] + 1,
+                _ => block.rows[1] = u32::MAX,
+            }
+            block.write(file);
+        }
+        _ => {
+            // Cut short, at least by a byte.
+            if random.once_in(2) {
+                books::random_book(random).write(file);
+            } else {
+                blocks::random_block(random, 1).write(file);
+            }
+            let whole = file.len() - from;
+            let kept = if random.once_in(2) { random.below(whole.min(80)) } else { random.below(whole) };
+            file.truncate(from + kept);
+        }
+    }
+}
+
+/// Runs the port on files that end in an unreadable record. Answers how many differ.
+pub fn compare_unreadable(program: &str, seed: u64, files: u64) -> u64 {
+    let mut differences = 0;
+    for index in 0..files {
+        let (file, right) = unreadable(&mut Random::of(&[seed, 3000, index]));
+        let length = file.len();
+        let printed = port::run(program, file).unwrap_or_else(|fault| fault);
+        if printed != right {
+            differences += 1;
+            println!("DIFFERENCE in file {index} of seed {seed}, {length} bytes:\n  printed\n{printed}  due is\n{right}");
+        }
+    }
+    println!("{files} files that end in a record that can't be read: {differences} differences");
+    differences
+}
+
+/// How many blocks of each class the fixed list takes.
+const LISTED: [(usize, usize); 7] = [(1, 200), (2, 50), (4, 24), (8, 12), (16, 6), (32, 4), (64, 4)];
+
+/// Larger books are left out, so that the list stays small.
+const FEW_CLUSTERS: u32 = 3;
+
+/// Whether a search with this rule broken answers something else on the block.
+fn decides(rule: Rule, book: &Book, block: &Block) -> bool {
+    let passed = |search: &&Search| checks::refusal(**search, book, block) == 0;
+    SEARCHES.iter().filter(passed).any(|&search| {
+        Problem::new(book, block, rule).run(search) != Problem::new(book, block, Rule::Kept).run(search)
+    })
+}
+
+/// The blocks of the fixed list, as class and number: some of each size, two for each check, and more until each rule decides one of them.
+fn listed(seed: u64) -> Vec<(usize, u64)> {
+    let small = |class: usize, index: u64| made(seed, class, index).0.clusters <= FEW_CLUSTERS;
+    let mut list: Vec<(usize, u64)> = Vec::new();
+    for (class, blocks) in LISTED {
+        let numbers = (0..).filter(|&index| small(class, index)).take(blocks);
+        list.extend(numbers.map(|index| (class, index)));
+    }
+    // Of the damaged inputs the first two that each check refuses.
+    for number in 1..=14 {
+        let refused = |&index: &u64| {
+            let (book, block) = made(seed, 0, index);
+            small(0, index) && checks::refusal(Search::Trellis, &book, &block) == number
+        };
+        list.extend((0..).filter(refused).take(2).map(|index| (0, index)));
+    }
+    for rule in RULES {
+        let shows = |&(class, index): &(usize, u64)| {
+            let (book, block) = made(seed, class, index);
+            class != 0 && decides(rule, &book, &block)
+        };
+        if !list.iter().any(shows) {
+            let more = (0..100_000).flat_map(|index| [(1, index), (2, index), (32, index)]);
+            let found = more.filter(|&(class, index)| small(class, index)).find(shows);
+            list.push(found.unwrap_or_else(|| panic!("no block that {rule:?} decides")));
+        }
+    }
+    list
+}
+
+/// Writes the fixed list as a program's `stdin` and `stdout`: the blocks, and the Rust's answers.
+pub fn write_list(folder: &str, seed: u64) {
+    let (mut file, mut text) = (Vec::new(), String::new());
+    let mut original = Original::new();
+    let mut latest = None;
+    let list = listed(seed);
+    for (number, &(class, index)) in list.iter().enumerate() {
+        let (book, block) = made(seed, class, index);
+        let name = (class, index / crate::per_book(class));
+        if latest != Some(name) {
+            book.write(&mut file);
+            original.take(&book);
+            latest = Some(name);
+        }
+        block.write(&mut file);
+        text += &lines(&mut original, number, &book, &block);
+    }
+    let path = |name: &str| format!("{folder}/{name}");
+    std::fs::write(path("stdin"), file).expect("stdin is written");
+    std::fs::write(path("stdout"), text).expect("stdout is written");
+    println!("{} blocks with the Rust's answers in {folder}; each rule decides one of them", list.len());
+}

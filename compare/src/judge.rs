@@ -1,0 +1,108 @@
+//! What is due for a block: by the checks, by the Rust, and by the plain definitions.
+
+use crate::checks::refusal;
+use crate::data::{Block, Book, Outcome, Reply, Search};
+use crate::entropy::entropy_code::door::lent;
+use crate::entropy::FrozenTokenPrices;
+use crate::group::trellis::door::{run, Scratch};
+use crate::plain::{Problem, Rule};
+use std::cell::Cell;
+use std::panic::{catch_unwind, set_hook, take_hook, AssertUnwindSafe};
+
+thread_local! {
+    /// A panic of the Rust is told as a difference, and not printed besides.
+    static IN_THE_RUST: Cell<bool> = const { Cell::new(false) };
+}
+
+/// Leaves the Rust's panics unprinted.
+pub fn quiet_panics() {
+    let usual = take_hook();
+    set_hook(Box::new(move |story| {
+        if !IN_THE_RUST.get() {
+            usual(story);
+        }
+    }));
+}
+
+/// What a search owes, and on whose word.
+pub struct Due {
+    pub outcome: Outcome,
+    pub source: Source,
+    /// Where the Rust and the plain definitions part: the story.
+    pub fault: Option<String>,
+    /// The plain search met an equal finite cost.
+    pub tie: bool,
+}
+
+#[derive(Clone, Copy, PartialEq, Eq, PartialOrd, Ord, Debug)]
+pub enum Source {
+    /// The levels are the Rust's; cost and count are the definition's for them.
+    Rust,
+    /// Checks 1 to 14.
+    Checks,
+    /// 15: nothing of the Rust is compared.
+    NoChoice,
+    /// 16: the Rust left the block as it was.
+    NoPath,
+}
+
+/// Prices of the Rust for one book, with its scratch.
+pub struct Original {
+    prices: Option<FrozenTokenPrices>,
+    scratch: Scratch,
+}
+
+impl Original {
+    pub fn new() -> Self {
+        Original { prices: None, scratch: Scratch::default() }
+    }
+
+    /// Takes another book; one that the checks refuse is never handed to the Rust.
+    pub fn take(&mut self, book: &Book) {
+        self.prices = (crate::checks::book_refusal(book) == 0).then(|| lent(book));
+    }
+
+    fn levels(&mut self, search: Search, block: &Block) -> Result<Vec<i32>, String> {
+        let prices = self.prices.as_ref().expect("a book that passed");
+        let mut levels = block.levels.clone();
+        let scratch = &mut self.scratch;
+        IN_THE_RUST.set(true);
+        let ended = catch_unwind(AssertUnwindSafe(|| run(search, block, prices, &mut levels, scratch)));
+        IN_THE_RUST.set(false);
+        ended.map(|()| levels).map_err(|_| "the Rust panicked".to_string())
+    }
+}
+
+pub fn due(original: &mut Original, search: Search, book: &Book, block: &Block) -> Due {
+    let untouched = |number: u32| Outcome { reply: Reply::Refused(number), levels: block.levels.clone() };
+    let number = refusal(search, book, block);
+    if number != 0 {
+        return Due { outcome: untouched(number), source: Source::Checks, fault: None, tie: false };
+    }
+    let mut problem = Problem::new(book, block, Rule::Kept);
+    let plain = problem.run(search);
+    let tie = problem.ties > 0;
+    if plain.reply == Reply::Refused(15) {
+        return Due { outcome: plain, source: Source::NoChoice, fault: None, tie };
+    }
+    let levels = match original.levels(search, block) {
+        Ok(levels) => levels,
+        Err(fault) => return Due { outcome: plain, source: Source::Rust, fault: Some(fault), tie },
+    };
+    if plain.reply == Reply::Refused(16) {
+        let fault = (levels != block.levels).then(|| "16 is due and the Rust changed the block".to_string());
+        return Due { outcome: plain, source: Source::NoPath, fault, tie };
+    }
+    let (cost, count) = problem.cost(&levels);
+    let count = count as u32;
+    let reply = match search {
+        Search::Greedy => Reply::Count(count),
+        _ => Reply::Cost { bits: cost.to_bits(), count },
+    };
+    let outcome = Outcome { reply, levels };
+    let fault = (outcome != plain).then(|| {
+        let told = |it: &Outcome| format!("{}{}", it.reply, crate::report::changes(block, &it.levels));
+        format!("the plain definitions give\n    {}\n  the Rust\n    {}", told(&plain), told(&outcome))
+    });
+    Due { outcome, source: Source::Rust, fault, tie }
+}

@@ -1,0 +1,91 @@
+//! The table, and a difference printed in full.
+
+use crate::data::{Block, Search, SEARCHES};
+use crate::judge::Source;
+use std::collections::BTreeMap;
+
+/// The levels that differ from the block's own, as the program prints them.
+pub fn changes(block: &Block, levels: &[i32]) -> String {
+    let mut text = String::new();
+    for (index, (new, old)) in levels.iter().zip(&block.levels).enumerate() {
+        if new != old {
+            text += &format!(" {index}:{new}");
+        }
+    }
+    text
+}
+
+#[derive(Default, Clone)]
+pub struct Counts {
+    /// By the Rust's levels, the definition's cost and count.
+    pub compared: u64,
+    pub equal: u64,
+    /// Of those: blocks where a search met equal costs, and where the levels changed.
+    pub ties: u64,
+    pub changed: u64,
+    pub halves: u64,
+    /// Refusals that were due, by number.
+    pub refused: BTreeMap<u32, u64>,
+    pub differences: u64,
+    pub not_compared: u64,
+}
+
+#[derive(Default, Clone)]
+pub struct Tally {
+    pub blocks: u64,
+    pub searches: [Counts; 3],
+}
+
+impl Tally {
+    pub fn add(&mut self, other: &Tally) {
+        self.blocks += other.blocks;
+        for (mine, theirs) in self.searches.iter_mut().zip(&other.searches) {
+            mine.compared += theirs.compared;
+            mine.equal += theirs.equal;
+            mine.ties += theirs.ties;
+            mine.changed += theirs.changed;
+            mine.halves += theirs.halves;
+            mine.differences += theirs.differences;
+            mine.not_compared += theirs.not_compared;
+            for (&number, &times) in &theirs.refused {
+                *mine.refused.entry(number).or_default() += times;
+            }
+        }
+    }
+
+    pub fn of(&mut self, search: Search) -> &mut Counts {
+        &mut self.searches[SEARCHES.iter().position(|&s| s == search).unwrap()]
+    }
+}
+
+impl Counts {
+    pub fn due(&mut self, source: Source, number: Option<u32>) {
+        match number {
+            Some(number) => *self.refused.entry(number).or_default() += 1,
+            None => debug_assert!(source == Source::Rust),
+        }
+    }
+}
+
+pub const HEADER: &str = "  c       blocks  search     compared        equal  with ties      changed   with a half  differ  refused as due (number: times)";
+
+pub fn row(class: &str, tally: &Tally, left_out: &[Search]) -> String {
+    let mut text = String::new();
+    for (search, counts) in SEARCHES.iter().zip(&tally.searches) {
+        let refused: Vec<String> = counts.refused.iter().map(|(number, times)| format!("{number}: {times}")).collect();
+        let note = if left_out.contains(search) { "  (the port's was left out)" } else { "" };
+        text += &format!(
+            "{class:>7} {:>9}  {:<8} {:>10} {:>12} {:>10} {:>12} {:>13} {:>7}  {}{note}\n",
+            tally.blocks,
+            format!("{search:?}"),
+            counts.compared,
+            counts.equal,
+            counts.ties,
+            counts.changed,
+            counts.halves,
+            counts.differences,
+            refused.join(", "),
+        );
+    }
+    text
+}

@@ -1,0 +1,3 @@
+mod Digits
+mod Fill
+mod Numbers
