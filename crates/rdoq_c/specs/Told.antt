@@ -1,8 +1,11 @@
 -- How an answer is told in C: a code, 0 or the refusal's number, and the answer's values in the caller's variables, which a refusal leaves as they were.
 -- Assumes nothing.
 use Prim.Native.Nat.{ℕ}
+use mathlib.Core.Bool.{cond}
 use mathlib.Core.List.{List}
+use lib.Dec.{eqb}
 use lib.IntN.{ℤ}
+use lib.ListN.{length}
 use lib.Ieee.{Float}
 use Rattle.block.specs.declared.Answer.{Answer}
 use Rattle.block.specs.declared.Answer.the-variants.{Cost, Count, Refused}
@@ -98,10 +101,12 @@ unfoldable pub restoringAfter : Lengths → ℕ → ℕ
 restoringAfter (Lengths.Value window) old = window .restoring
 restoringAfter (Lengths.Refused number) old = old
 
--- of the call on candidates: the count is told as a whole number; the levels stand beside it
-abbrev pub listAfter : Number → List ℤ → List ℤ → List ℤ
-listAfter (Number.Value value) levels old = levels
-listAfter (Number.Refused number) levels old = old
+-- of the call on candidates: room for other than five levels is refused too
+unfoldable pub listedCode : Listed → List ℤ → ℕ
+listedCode found room = cond (eqb (length room) 5) (numberCode (found .answer)) 17
 
 unfoldable pub levelsAfter : Listed → List ℤ → List ℤ
-levelsAfter found old = listAfter (found .answer) (found .levels) old
+levelsAfter found room = cond (eqb (listedCode found room) 0) (found .levels) room
+
+unfoldable pub listedCountAfter : Listed → List ℤ → ℕ → ℕ
+listedCountAfter found room old = cond (eqb (length room) 5) (numberAfter (found .answer) old) old

@@ -5,16 +5,13 @@ use crate::told::tell_real;
 use crate::told::tell_token;
 use bias::DequantBias;
 use packing::HybridUintConfig;
-use rdoq::answer::Listed;
-use rdoq::answer::Number;
 ghost use mathlib.Core.Path.{_≡_};
 ghost use Rattle.rdoq.specs.Contexts.{blockContextReply, nonZeroContextReply, offsetReply, zeroDensityReply};
 ghost use Rattle.rdoq.specs.Dequant.{levelReply};
-ghost use Rattle.rdoq.specs.Levels.{candidatesReply};
 ghost use Rattle.rdoq.specs.Tokens.{packReply, splitReply};
 ghost use Rattle.rdoq.specs.Weighing.{lambdaReply, chromaReply, distortionReply, windowReply};
 ghost use Rattle.rdoq_c.specs.Parts.{biasOf, configOf};
-ghost use Rattle.rdoq_c.specs.Told.{numberCode, numberAfter, levelsAfter, realCode, realAfter, tokenCode, symbolAfter, extraAfter, bitsAfter, lengthsCode, lengthAfter, restoringAfter};
+ghost use Rattle.rdoq_c.specs.Told.{numberCode, numberAfter, realCode, realAfter, tokenCode, symbolAfter, extraAfter, bitsAfter, lengthsCode, lengthAfter, restoringAfter};
 
 // Writes the packed form of a level.
 #[no_mangle]
@@ -196,32 +193,4 @@ pub extern "C" fn rdoq_window_len(
         length,
         restoring,
     )
-}
-
-// The levels of a list that was answered, or those that were there before.
-fn levels_after(found: Listed, old: [i32; 5]) -> [i32; 5]
-    ensures { λ r. ⌜ r ≡ levelsAfter found old ⌝ }
-{
-    match found.answer {
-        Number::Value(_) => found.levels,
-        Number::Refused(_) => old,
-    }
-}
-
-// Writes the levels that may be picked for a coefficient, and how many there are. Past the count stands 0, or where the level may be restored the current level.
-#[no_mangle]
-pub extern "C" fn rdoq_candidates(
-    ideal: f32,
-    current: i32,
-    restore: bool,
-    levels: &mut [i32; 5],
-    count: &mut u32,
-) -> u32
-    ensures { λ r. ⌜ r ≡ numberCode (candidatesReply ideal current restore .answer) ⌝ }
-    ensures { λ _. ⌜ now (count .exit) ≡ numberAfter (candidatesReply ideal current restore .answer) (now (count .entry)) ⌝ }
-    ensures { λ _. ⌜ now (levels .exit) ≡ levelsAfter (candidatesReply ideal current restore) (now (levels .entry)) ⌝ }
-{
-    let found = rdoq::levels::rdoq_candidates(ideal, current, restore);
-    *levels = levels_after(found, *levels);
-    tell_number(found.answer, count)
 }
