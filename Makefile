@@ -1,10 +1,11 @@
-# make test   the whole gate: layout, proofs, must-fail edits, programs
-# make run    the main program on a sample
+# make test       the whole gate: layout, proofs, must-fail edits, programs
+# make run        the main program on a sample
+# make bindings   the static library, the C example and the tests of the Rust crate
 
 SHELL := bash
 .SHELLFLAGS := -euo pipefail -c
 
-.PHONY: test run
+.PHONY: test run bindings
 
 # rt ci comes last: its closing line, 'N passed, 0 failed', is the last line printed.
 test:
@@ -20,3 +21,14 @@ run:
 	@cat $(SAMPLE)
 	@echo 'It prints each line with its context, or with -1 where no context is defined:'
 	@target/bin/context_sheet < $(SAMPLE)
+
+# Without a C compiler or without cargo, that part is left out, and said so.
+bindings:
+	@mkdir -p target
+	@rt staticlib rdoq_c > target/staticlib.log 2>&1 || { cat target/staticlib.log >&2; exit 1; }
+	@if command -v gcc > /dev/null; then \
+	    gcc -std=c99 -Wall -Wextra -Werror -o target/example_c bindings/c/example.c target/staticlib/librdoq_c.a -lm && target/example_c; \
+	else echo 'bindings: no gcc here: the C example is left out'; fi
+	@if command -v cargo > /dev/null; then \
+	    cd bindings/rust && cargo test --offline; \
+	else echo 'bindings: no cargo here: the tests of the Rust crate are left out'; fi
