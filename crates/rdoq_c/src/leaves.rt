@@ -5,13 +5,15 @@ use crate::told::tell_real;
 use crate::told::tell_token;
 use bias::DequantBias;
 use packing::HybridUintConfig;
+use rdoq::answer::OUTSIDE;
 ghost use mathlib.Core.Path.{_≡_};
 ghost use Rattle.rdoq.specs.Contexts.{blockContextReply, nonZeroContextReply, offsetReply, zeroDensityReply};
 ghost use Rattle.rdoq.specs.Dequant.{levelReply};
+ghost use Rattle.rdoq.specs.Levels.{candidatesReply};
 ghost use Rattle.rdoq.specs.Tokens.{packReply, splitReply};
 ghost use Rattle.rdoq.specs.Weighing.{lambdaReply, chromaReply, distortionReply, windowReply};
 ghost use Rattle.rdoq_c.specs.Parts.{biasOf, configOf};
-ghost use Rattle.rdoq_c.specs.Told.{numberCode, numberAfter, realCode, realAfter, tokenCode, symbolAfter, extraAfter, bitsAfter, lengthsCode, lengthAfter, restoringAfter};
+ghost use Rattle.rdoq_c.specs.Told.{numberCode, numberAfter, listedCode, levelsAfter, listedCountAfter, realCode, realAfter, tokenCode, symbolAfter, extraAfter, bitsAfter, lengthsCode, lengthAfter, restoringAfter};
 
 // Writes the packed form of a level.
 #[no_mangle]
@@ -193,4 +195,35 @@ pub extern "C" fn rdoq_window_len(
         length,
         restoring,
     )
+}
+
+// Writes the levels that may be picked for a coefficient, and how many there are. Past the count stands 0, or where the level may be restored the current level.
+// Asks for room for five levels.
+#[no_mangle]
+pub extern "C" fn rdoq_candidates(
+    ideal: f32,
+    current: i32,
+    restore: bool,
+    levels: &mut [i32],
+    count: &mut u32,
+) -> u32
+    ensures { λ r. ⌜ r ≡ listedCode (candidatesReply ideal current restore) (now (levels .entry)) ⌝ }
+    ensures { λ _. ⌜ now (levels .exit) ≡ levelsAfter (candidatesReply ideal current restore) (now (levels .entry)) ⌝ }
+    ensures { λ _. ⌜ now (count .exit) ≡ listedCountAfter (candidatesReply ideal current restore) (now (levels .entry)) (now (count .entry)) ⌝ }
+{
+    if levels.len() != 5 {
+        return OUTSIDE;
+    }
+    let found = rdoq::levels::rdoq_candidates(ideal, current, restore);
+    let five = found.levels;
+    let answer = found.answer;
+    let code = tell_number(answer, count);
+    if code == 0 {
+        levels[0] = five[0];
+        levels[1] = five[1];
+        levels[2] = five[2];
+        levels[3] = five[3];
+        levels[4] = five[4];
+    }
+    code
 }
