@@ -190,6 +190,12 @@ uint32_t rdoq_chroma_rdoq_weight(float distance, float *weight);
 /* The weight of a position in a window of at most 1,024, at an index of at most the length, at a distance of 0 to 25. */
 uint32_t rdoq_distortion_weight(uint32_t window_index, uint32_t window_len, float distance, float *weight);
 
+/*
+ * The levels that may be picked for a coefficient, the current one first, and how many there are, 1 to 5. levels has room for exactly
+ * five; past the count stands 0, or where `restore` is true the current level. current and ideal lie within -32,767 to 32,767.
+ */
+uint32_t rdoq_candidates(float ideal, int32_t current, bool restore, int32_t *levels, size_t levels_len, uint32_t *count);
+
 /* How many positions a search covers, and how many of them it may restore. covered_blocks is a power of two of at most 1,024. */
 uint32_t rdoq_window_len(uint32_t covered_blocks, size_t *length, size_t *restoring);
 

@@ -93,6 +93,17 @@ int main(void) {
     expect("  symbol", symbol, 31);
     expect("  extra bits", extra_bits, 5);
     expect("  the bits", bits, 31);
+    int32_t found[5] = {9, 9, 9, 9, 9};
+    expect("candidates of 3, ideal 3.25, restoring", rdoq_candidates(3.25f, 3, true, found, 5, &count), 0);
+    expect("  how many", count, 4);
+    for (int i = 0; i < 5; i++) {
+        static const int32_t due[5] = {3, 0, 2, 4, 3};
+        expect("  level", found[i], due[i]);
+    }
+    count = 99;
+    expect("room for four", rdoq_candidates(0.0f, 0, true, found, 4, &count), 17);
+    expect("  count", count, 99);
+    expect("  first level", found[0], 3);
     size_t length = 0, restoring = 0;
     expect("the window of 32 blocks", rdoq_window_len(32, &length, &restoring), 0);
     expect("  length", (double)length, 1024);

@@ -46,5 +46,8 @@ extern "C" {
     pub fn rdoq_lambda(rd: c_float, tuning: c_float, ratio: c_float, lambda: *mut c_float) -> u32;
     pub fn rdoq_chroma_rdoq_weight(distance: c_float, weight: *mut c_float) -> u32;
     pub fn rdoq_distortion_weight(window_index: u32, window_len: u32, distance: c_float, weight: *mut c_float) -> u32;
+    pub fn rdoq_candidates(
+        ideal: c_float, current: i32, restore: bool, levels: *mut i32, levels_len: usize, count: *mut u32,
+    ) -> u32;
     pub fn rdoq_window_len(covered_blocks: u32, length: *mut usize, restoring: *mut usize) -> u32;
 }

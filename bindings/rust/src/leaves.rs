@@ -126,6 +126,21 @@ pub fn distortion_weight(window_index: u32, window_len: u32, distance: f32) -> R
     told(|out| unsafe { ffi::rdoq_distortion_weight(window_index, window_len, distance, out) })
 }
 
+/// The levels that may be picked for a coefficient, the current one first. The level and the ideal lie within ±32,767.
+///
+/// ```
+/// // restoring, a 3 whose ideal is 3.25
+/// assert_eq!(rdoq::candidates(3.25, 3, true)?, [3, 0, 2, 4]);
+/// # Ok::<(), rdoq::Refusal>(())
+/// ```
+pub fn candidates(ideal: f32, current: i32, restore: bool) -> Result<Vec<i32>, Refusal> {
+    let (mut levels, mut count) = (vec![0; 5], 0);
+    // SAFETY: the pointer to the levels comes with their length; both are this function's own.
+    answered(unsafe { ffi::rdoq_candidates(ideal, current, restore, levels.as_mut_ptr(), levels.len(), &mut count) })?;
+    levels.truncate(count as usize);
+    Ok(levels)
+}
+
 /// The window for a number of covered blocks, a power of two up to 1,024.
 ///
 /// ```

@@ -1,6 +1,6 @@
 //! The price book and the leaf calls, within their domains and outside. Expected numbers are worked out by hand from the definitions.
 use rdoq::{
-    chroma_weight, distortion_weight, fine_block_context, fine_non_zero_context, fine_zero_density_contexts_offset, lambda, level,
+    candidates, chroma_weight, distortion_weight, fine_block_context, fine_non_zero_context, fine_zero_density_contexts_offset, lambda, level,
     pack_signed, uint_encode_with_config, window_len, zero_density_context, zero_density_context_8x8, Bias, Book, BookBuilder,
     Config, Pricing, Refusal, Split, Window, CONTEXTS, SYMBOLS,
 };
@@ -199,5 +199,21 @@ fn windows() {
     }
     for covered in [0, 3, 2_048] {
         assert_eq!(window_len(covered), Err(OUTSIDE));
+    }
+}
+
+#[test]
+fn candidate_levels() {
+    // not restoring: the level, one step toward zero, and 0
+    for (current, list) in [(3, vec![3, 2, 0]), (-1, vec![-1, 0]), (0, vec![0])] {
+        assert_eq!(candidates(0.0, current, false), Ok(list));
+    }
+    // restoring: the level, 0, the ideal's rounding and its neighbours; the level alone where a large ideal is close to its rounding
+    for (ideal, current, list) in [(0.75, 0, vec![0, 1, 2]), (3.25, 3, vec![3, 0, 2, 4]), (3.125, 3, vec![3])] {
+        assert_eq!(candidates(ideal, current, true), Ok(list));
+    }
+    assert_eq!(candidates(-32_767.0, 32_767, true).map(|list| list[0]), Ok(32_767));
+    for (ideal, current) in [(f32::NAN, 0), (32_768.0, 0), (0.0, 32_768), (0.0, -32_768)] {
+        assert_eq!(candidates(ideal, current, true), Err(OUTSIDE));
     }
 }

@@ -1,5 +1,6 @@
 -- What the exported search returns, and what every lent variable and buffer holds afterwards. Assumes nothing.
 use Prim.Native.Nat.{ℕ}
+use mathlib.Core.Path.{_≡_}
 use mathlib.Core.Bool.{cond}
 use mathlib.Core.List.{List}
 use lib.Dec.{eqb, leb}
@@ -36,3 +37,7 @@ told result cost count =
 unfoldable pub blockReply : ℕ → Book → Block → Lent → Float → ℕ → Reply
 blockReply search book b l cost count =
     cond (leb search 2) (told (searchOutcome (searchNamed search) book b l) cost count) (replyOf 17 cost count l)
+
+-- a refused block keeps every level
+abbrev pub RefusedKeeps : ℕ → List ℤ → List ℤ → Type 0
+RefusedKeeps code before after = (code ≡ 0 → ⊥) → after ≡ before

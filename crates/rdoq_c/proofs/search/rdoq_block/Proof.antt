@@ -1,14 +1,15 @@
 -- `search::rdoq_block` meets its contract. Assumes nothing.
+use mathlib.Core.Path.{refl}
 use borrow.Author.Tests.{le-leb, lt-leb}
 use Rattle.rdoq_c.specs.Search.{blockReply}
-use Rattle.rdoq_c.proofs.Telling.{told-block}
+use Rattle.rdoq_c.proofs.Telling.{told-block, told-keeps}
 use borrow.Author.Needs.{needs}
 use Rattle.rdoq_c.proofs.search.rdoq_block.Statement.{statement}
 use Rattle.rdoq_c.proofs.search.rdoq_block.Tie as tie
 
 returns : tie.Need-returns
 unfolding blockReply
-returns c = rw (lt-leb _ _ (c .if1 .taken))
+returns c = (rw (lt-leb _ _ (c .if1 .taken)), λ refused. refl)
 
 named-requires : tie.Need-named-requires
 named-requires c κs = search needs
@@ -33,8 +34,10 @@ same-length-4 c = search needs
 
 returns-2 : tie.Need-returns-2
 unfolding blockReply
-returns-2 c = rw (le-leb _ _ (c .before .before .before .before .before .before .before .before .before .before .before .before .before .before .before .before .if1 .left))
-    (told-block _ _ (rw (c .before .before .before .before .before .before .before .before .before .before .before .before .before .before .before .named .ensures) at (c .before .before .before .before .before .before .before .before .before .before .rdoq-block .ensures .0)) (c .tell-answer .ensures))
+returns-2 c =
+    let searched = c .before .before .before .before .before .before .before .before .before .before .rdoq-block .ensures in
+    let told = c .tell-answer .ensures in
+    (rw (le-leb _ _ (c .before .before .before .before .before .before .before .before .before .before .before .before .before .before .before .before .if1 .left)) (told-block _ _ (rw (c .before .before .before .before .before .before .before .before .before .before .before .before .before .before .before .named .ensures) at (searched .0)) told), told-keeps _ _ _ (told .0) (searched .1))
 
 pub rdoq-block-spec : {M : Type 1} → statement M
 rdoq-block-spec =
