@@ -1,10 +1,13 @@
-# make test   the whole gate: layout, proofs, must-fail edits, programs
-# make run    the main program on a sample
+# make test       the whole gate: layout, proofs, must-fail edits, programs; then the bindings and a short comparison, where their tools are at hand
+# make run        the main program on a sample
+# make bindings   the static library, the C example and the tests of the Rust crate
 # make compare N=1000 CLASSES=1,2 SEED=1 WITHOUT=beam
-#             N blocks of each size class, by the Rust and by this port (compare/README.md says what is compared)
+#                 N blocks of each size class, by the Rust and by this port (compare/README.md says what is compared)
+# make bench      times beside the Rust's
 
 SHELL := bash
 .SHELLFLAGS := -euo pipefail -c
+MAKEFLAGS += --no-print-directory
 
 # Overrides for a comparison: see the top.
 N ?= 1000
@@ -12,26 +15,51 @@ SEED ?= 1
 CLASSES ?=
 WITHOUT ?=
 
-.PHONY: test run compare
+# The Rust, for comparisons: the folder that holds src/group/trellis.rs.
+JIXEL_SRC ?= $(abspath ../shared/docs/src)
+export JIXEL_SRC
 
-# rt ci comes last: its closing line, 'N passed, 0 failed', is the last line printed.
+.PHONY: test run bindings compare bench
+
+# rt's closing line, 'N passed, 0 failed', is kept back and printed last.
 test:
 	rt fmt --check
-	rt ci
+	@rt ci | awk 'NR > 1 { print last } { last = $$0 } END { print last > "target/verdict.txt" }'
+	@$(MAKE) bindings > target/bindings.log 2>&1 || { cat target/bindings.log; exit 1; }
+	@grep '^bindings:' target/bindings.log
+	@if command -v cargo > /dev/null && [ -f "$(JIXEL_SRC)/src/group/trellis.rs" ]; then $(MAKE) compare N=100; \
+	else echo 'compare: no cargo, or not the Rust in JIXEL_SRC: left out'; fi
+	@cat target/verdict.txt
 
-SAMPLE := examples/context-sheet.txt
+SAMPLE := examples/blocks.bin
 
 run:
 	@mkdir -p target
-	@rt check context_sheet > target/run.log 2>&1 || { cat target/run.log >&2; exit 1; }
-	@echo 'The context sheet reads lines of four columns: covered blocks, remaining, k, prev.'
-	@cat $(SAMPLE)
-	@echo 'It prints each line with its context, or with -1 where no context is defined:'
-	@target/bin/context_sheet < $(SAMPLE)
+	@rt check level_search > target/run.log 2>&1 || { cat target/run.log >&2; exit 1; }
+	@target/bin/level_search < $(SAMPLE) > target/run.out
+	@tools/explain.sh < target/run.out
+
+# Without a C compiler or without cargo, that part is left out, and said so.
+bindings:
+	@mkdir -p target
+	@rt staticlib rdoq_c > target/staticlib.log 2>&1 || { cat target/staticlib.log >&2; exit 1; }
+	@if command -v gcc > /dev/null; then \
+	    gcc -std=c99 -Wall -Wextra -Werror -o target/example_c bindings/c/example.c target/staticlib/librdoq_c.a -lm && target/example_c && \
+	    echo 'bindings: the C example answers as it should'; \
+	else echo 'bindings: no gcc here: the C example is left out'; fi
+	@if command -v cargo > /dev/null; then \
+	    (cd bindings/rust && cargo test --offline) && echo 'bindings: the tests of the Rust crate pass'; \
+	else echo 'bindings: no cargo here: the tests of the Rust crate are left out'; fi
 
 compare:
 	@command -v cargo > /dev/null || { echo 'make compare needs cargo, and the Rust in the folder that JIXEL_SRC names'; exit 2; }
 	@mkdir -p target
 	@rt check level_search > target/compare.log 2>&1 || { cat target/compare.log >&2; exit 1; }
-	@cargo build --quiet --release --offline --manifest-path compare/Cargo.toml
+	@cargo build --quiet --release --offline --manifest-path compare/Cargo.toml --bin compare
 	@compare/target/release/compare $(N) --seed $(SEED) --port target/bin/level_search $(if $(CLASSES),--classes $(CLASSES)) $(if $(WITHOUT),--without $(WITHOUT))
+
+bench:
+	@command -v cargo > /dev/null || { echo 'make bench needs cargo, and the Rust in the folder that JIXEL_SRC names'; exit 2; }
+	@mkdir -p target
+	@rt staticlib rdoq_c > target/staticlib.log 2>&1 || { cat target/staticlib.log >&2; exit 1; }
+	@cargo run --quiet --profile speed --offline --manifest-path compare/Cargo.toml --bin bench -- docs/performance.svg

@@ -1,0 +1,116 @@
+/* A block of zeros with a price of one bit for every symbol, then with infinite prices. The answers are worked out by hand. The exit status counts those that differ. */
+#include <math.h>
+#include <stdio.h>
+#include <string.h>
+
+#include "../../include/rdoq.h"
+
+enum { N = 64, WINDOW = 63 };
+
+static uint8_t map[RDOQ_CONTEXTS];
+static const uint8_t configs[3] = {4, 2, 0};
+static float symbols[RDOQ_SYMBOLS];
+static float ready[RDOQ_READY];
+static uint32_t scan[N];
+static float source[N], inv_qm[N];
+static int32_t levels[N];
+static uint8_t choices[RDOQ_TRELLIS_CHOICES * WINDOW];
+static float row_a[RDOQ_ROW], row_b[RDOQ_ROW];
+static float cost;
+static uint32_t count;
+static int wrong;
+
+static void expect(const char *what, double found, double due) {
+    int same = found == due;
+    printf("%-44s %g%s\n", what, found, same ? "" : "  WRONG");
+    wrong += !same;
+}
+
+static uint32_t fill(float price) {
+    for (unsigned i = 0; i < RDOQ_SYMBOLS; i++) {
+        symbols[i] = price;
+    }
+    return rdoq_fill_ready(1, map, sizeof map, configs, sizeof configs, symbols, RDOQ_SYMBOLS, ready, RDOQ_READY);
+}
+
+static uint32_t search(uint32_t which, float lambda) {
+    cost = -1.0f;
+    count = 99;
+    return rdoq_block(which, 1, map, sizeof map, configs, sizeof configs, symbols, RDOQ_SYMBOLS, ready, RDOQ_READY, 1, 1, 0, 1,
+                      false, 0, 1.0f, lambda, 1.0f, 1.0f, 0.9f, RDOQ_BIAS_NUMERATOR, 1.0f, scan, N, source, N, inv_qm, N, levels,
+                      N, choices, sizeof choices, row_a, RDOQ_ROW, row_b, RDOQ_ROW, &cost, &count);
+}
+
+/* 1 where all of the room is at its fixed values */
+static int cleared(void) {
+    for (unsigned i = 0; i < sizeof choices; i++) {
+        if (choices[i] != 255) return 0;
+    }
+    for (unsigned i = 0; i < RDOQ_ROW; i++) {
+        if (row_a[i] != INFINITY || row_b[i] != INFINITY) return 0;
+    }
+    return 1;
+}
+
+static int nonzero_levels(void) {
+    int n = 0;
+    for (int i = 0; i < N; i++) n += levels[i] != 0;
+    return n;
+}
+
+int main(void) {
+    for (uint32_t i = 0; i < N; i++) {
+        scan[i] = i;
+        inv_qm[i] = 1.0f;
+    }
+
+    expect("filling the ready prices", fill(1.0f), 0);
+    expect("checking the book", rdoq_check_book(1, map, sizeof map, configs, sizeof configs, symbols, RDOQ_SYMBOLS, ready, RDOQ_READY), 0);
+    for (uint32_t which = RDOQ_GREEDY; which <= RDOQ_TRELLIS; which++) {
+        printf("search %u\n", which);
+        expect("  code", search(which, 0.5f), 0);
+        expect("  count", count, 0);
+        expect("  cost: lambda, and none by greedy", cost, which == RDOQ_GREEDY ? -1.0 : 0.5);
+        expect("  nonzero levels", nonzero_levels(), 0);
+        expect("  room cleared, not by greedy", cleared(), which != RDOQ_GREEDY);
+    }
+
+    expect("filling infinite prices", fill(INFINITY), 0);
+    expect("greedy", search(RDOQ_GREEDY, 0.5f), 0);
+    expect("the beam", search(RDOQ_BEAM, 0.5f), 16);
+    expect("the trellis", search(RDOQ_TRELLIS, 0.5f), 15);
+    expect("cost after a refusal", cost, -1);
+    expect("count after a refusal", count, 99);
+    memset(choices, 7, sizeof choices);
+    expect("no such search", search(3, 0.5f), 17);
+    expect("a lambda of 0", search(RDOQ_TRELLIS, 0.0f), 10);
+    expect("a byte of the room after both", choices[0], 7);
+
+    uint32_t packed = 0, symbol = 0, extra_bits = 0, bits = 0;
+    expect("packing -32,768", rdoq_pack_signed(-32768, &packed), 0);
+    expect("  packed", packed, 65535);
+    expect("splitting 255", rdoq_uint_encode_with_config(255, 4, 2, 0, &symbol, &extra_bits, &bits), 0);
+    expect("  symbol", symbol, 31);
+    expect("  extra bits", extra_bits, 5);
+    expect("  the bits", bits, 31);
+    int32_t found[5] = {9, 9, 9, 9, 9};
+    expect("candidates of 3, ideal 3.25, restoring", rdoq_candidates(3.25f, 3, true, found, 5, &count), 0);
+    expect("  how many", count, 4);
+    for (int i = 0; i < 5; i++) {
+        static const int32_t due[5] = {3, 0, 2, 4, 3};
+        expect("  level", found[i], due[i]);
+    }
+    count = 99;
+    expect("room for four", rdoq_candidates(0.0f, 0, true, found, 4, &count), 17);
+    expect("  count", count, 99);
+    expect("  first level", found[0], 3);
+    size_t length = 0, restoring = 0;
+    expect("the window of 32 blocks", rdoq_window_len(32, &length, &restoring), 0);
+    expect("  length", (double)length, 1024);
+    expect("  restoring", (double)restoring, 256);
+
+    if (wrong) {
+        printf("%d wrong\n", wrong);
+    }
+    return wrong != 0;
+}

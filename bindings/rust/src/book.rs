@@ -1,0 +1,225 @@
+use crate::ffi;
+use crate::refusal::{answered, Refusal};
+
+/// The contexts of a map.
+pub const CONTEXTS: usize = 14_850;
+/// The symbol prices of a cluster.
+pub const SYMBOLS: usize = 128;
+/// The ready prices of a cluster.
+pub const READY: usize = 256;
+
+/// What each token costs, in bits. Made by [`BookBuilder`].
+///
+/// A book may be shared by any number of searches at once.
+#[derive(Clone, Debug, PartialEq)]
+pub struct Book {
+    clusters: u32,
+    map: Vec<u8>,
+    configs: Vec<u8>,
+    symbols: Vec<f32>,
+    ready: Vec<f32>,
+}
+
+impl Book {
+    /// A book from parts that somebody else filled. Nothing is checked here: [`check`](Book::check) does, and so does each search.
+    pub fn from_parts(clusters: u32, map: Vec<u8>, configs: Vec<u8>, symbols: Vec<f32>, ready: Vec<f32>) -> Book {
+        Book { clusters, map, configs, symbols, ready }
+    }
+
+    /// Checks 1 to 6. A book from [`BookBuilder::fill`] passes.
+    pub fn check(&self) -> Result<(), Refusal> {
+        let (map, configs, symbols, ready) = (&self.map, &self.configs, &self.symbols, &self.ready);
+        // SAFETY: each pointer comes with the length of its slice, and the call reads within it.
+        answered(unsafe {
+            ffi::rdoq_check_book(
+                self.clusters,
+                map.as_ptr(),
+                map.len(),
+                configs.as_ptr(),
+                configs.len(),
+                symbols.as_ptr(),
+                symbols.len(),
+                ready.as_ptr(),
+                ready.len(),
+            )
+        })
+    }
+
+    /// The price of a value of at most 131,071 in a context below 14,850.
+    pub fn token_bits(&self, context: u32, value: u32) -> Result<f32, Refusal> {
+        let (map, configs, symbols, ready) = (&self.map, &self.configs, &self.symbols, &self.ready);
+        let mut bits = 0.0;
+        // SAFETY: as in `check`; `bits` is this function's own.
+        answered(unsafe {
+            ffi::rdoq_token_bits(
+                self.clusters,
+                map.as_ptr(),
+                map.len(),
+                configs.as_ptr(),
+                configs.len(),
+                symbols.as_ptr(),
+                symbols.len(),
+                ready.as_ptr(),
+                ready.len(),
+                context,
+                value,
+                &mut bits,
+            )
+        })?;
+        Ok(bits)
+    }
+
+    /// The prices of a value in a context and the next one.
+    pub fn token_bits_pair(&self, context: u32, value: u32) -> Result<(f32, f32), Refusal> {
+        let (map, configs, symbols, ready) = (&self.map, &self.configs, &self.symbols, &self.ready);
+        let (mut first, mut second) = (0.0, 0.0);
+        // SAFETY: as in `check`; `first` and `second` are this function's own.
+        answered(unsafe {
+            ffi::rdoq_token_bits_pair(
+                self.clusters,
+                map.as_ptr(),
+                map.len(),
+                configs.as_ptr(),
+                configs.len(),
+                symbols.as_ptr(),
+                symbols.len(),
+                ready.as_ptr(),
+                ready.len(),
+                context,
+                value,
+                &mut first,
+                &mut second,
+            )
+        })?;
+        Ok((first, second))
+    }
+
+    /// How many clusters there are.
+    pub fn clusters(&self) -> u32 {
+        self.clusters
+    }
+
+    /// The cluster of each context.
+    pub fn map(&self) -> &[u8] {
+        &self.map
+    }
+
+    /// Three bytes a cluster: split exponent, msb in token, lsb in token.
+    pub fn configs(&self) -> &[u8] {
+        &self.configs
+    }
+
+    /// 128 prices a cluster.
+    pub fn symbols(&self) -> &[f32] {
+        &self.symbols
+    }
+
+    /// 256 prices a cluster: those of the values 0 to 255.
+    pub fn ready(&self) -> &[f32] {
+        &self.ready
+    }
+}
+
+/// How a prefix code prices a symbol that it lacks.
+#[derive(Clone, Copy, Debug, PartialEq, Eq, Hash)]
+pub enum Pricing {
+    /// 15 bits.
+    Lenient,
+    /// +infinity: such a symbol can't be written.
+    Strict,
+}
+
+/// Makes a [`Book`] from a context map, configurations and prices.
+///
+/// From symbol prices:
+///
+/// ```
+/// use rdoq::{BookBuilder, CONTEXTS, SYMBOLS};
+///
+/// // one cluster, split 4,2,0, and one bit for every symbol
+/// let book = BookBuilder::new(vec![0; CONTEXTS], &[[4, 2, 0]])
+///     .symbol_prices(vec![1.0; SYMBOLS])
+///     .fill()?;
+/// // 255 is symbol 31 with 5 extra bits
+/// assert_eq!(book.token_bits(0, 255)?, 6.0);
+/// # Ok::<(), rdoq::Refusal>(())
+/// ```
+///
+/// From a prefix code:
+///
+/// ```
+/// use rdoq::{BookBuilder, Pricing, CONTEXTS, SYMBOLS};
+///
+/// let mut depths = vec![0; SYMBOLS];
+/// depths[0] = 1;
+/// depths[1] = 2;
+/// depths[2] = 2;
+/// let book = BookBuilder::new(vec![0; CONTEXTS], &[[4, 2, 0]])
+///     .prefix_code(&depths, &[0], Pricing::Strict)?
+///     .fill()?;
+/// assert_eq!(book.token_bits(0, 2)?, 2.0);
+/// assert_eq!(book.token_bits(0, 3)?, f32::INFINITY);
+/// # Ok::<(), rdoq::Refusal>(())
+/// ```
+#[derive(Clone, Debug)]
+pub struct BookBuilder {
+    clusters: u32,
+    map: Vec<u8>,
+    configs: Vec<u8>,
+    symbols: Vec<f32>,
+}
+
+impl BookBuilder {
+    /// `map` has the cluster of each of the 14,850 contexts. There is a cluster for each configuration: split exponent, msb in token, lsb in token.
+    pub fn new(map: Vec<u8>, configs: &[[u8; 3]]) -> BookBuilder {
+        let clusters = u32::try_from(configs.len()).unwrap_or(u32::MAX);
+        BookBuilder { clusters, map, configs: configs.concat(), symbols: Vec::new() }
+    }
+
+    /// Prices the symbols: 128 for each cluster. +infinity is for a symbol that can't be written.
+    pub fn symbol_prices(mut self, prices: Vec<f32>) -> BookBuilder {
+        self.symbols = prices;
+        self
+    }
+
+    /// Prices the symbols by a prefix code: 128 depths for each cluster, and a byte for each cluster that is not 0 where its code has a single symbol.
+    pub fn prefix_code(mut self, depths: &[u8], singles: &[u8], pricing: Pricing) -> Result<BookBuilder, Refusal> {
+        let mut symbols = vec![0.0; SYMBOLS * self.configs.len() / 3];
+        // SAFETY: each pointer comes with the length of its slice; only `symbols` is written.
+        answered(unsafe {
+            ffi::rdoq_prefix_symbol_bits(
+                self.clusters,
+                depths.as_ptr(),
+                depths.len(),
+                singles.as_ptr(),
+                singles.len(),
+                pricing == Pricing::Strict,
+                symbols.as_mut_ptr(),
+                symbols.len(),
+            )
+        })?;
+        self.symbols = symbols;
+        Ok(self)
+    }
+
+    /// Fills the ready prices. The book passes [`Book::check`].
+    pub fn fill(self) -> Result<Book, Refusal> {
+        let BookBuilder { clusters, map, configs, symbols } = self;
+        let mut ready = vec![0.0; READY * configs.len() / 3];
+        // SAFETY: each pointer comes with the length of its slice; only `ready` is written.
+        answered(unsafe {
+            ffi::rdoq_fill_ready(
+                clusters,
+                map.as_ptr(),
+                map.len(),
+                configs.as_ptr(),
+                configs.len(),
+                symbols.as_ptr(),
+                symbols.len(),
+                ready.as_mut_ptr(),
+                ready.len(),
+            )
+        })?;
+        Ok(Book { clusters, map, configs, symbols, ready })
+    }
+}

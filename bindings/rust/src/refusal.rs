@@ -1,0 +1,125 @@
+use std::error::Error;
+use std::fmt;
+
+/// Why a call did not answer. Each refusal has the number that the library returns; [`Display`](fmt::Display) says what to mend.
+///
+/// ```
+/// use rdoq::{pack_signed, Refusal};
+///
+/// let refusal = pack_signed(40_000).unwrap_err();
+/// assert_eq!(refusal, Refusal::Domain);
+/// assert_eq!(refusal.number(), 17);
+/// println!("{refusal}");
+/// ```
+#[derive(Clone, Copy, Debug, PartialEq, Eq, Hash)]
+#[non_exhaustive]
+#[repr(u8)]
+pub enum Refusal {
+    /// The map is not 14,850 bytes, or the clusters are not 1 to 256.
+    MapLength = 1,
+    /// Configurations, symbol prices, ready prices, depths or flags have a wrong length.
+    BookLength = 2,
+    /// An entry of the map is not below the number of clusters.
+    MapEntry = 3,
+    /// A configuration needs more than 128 symbols, or is none.
+    Configuration = 4,
+    /// A symbol price is NaN, below 0, or finite and above 1,024.
+    SymbolPrice = 5,
+    /// A ready price is not symbol price plus extra bits.
+    ReadyPrice = 6,
+    /// A side of the block is not 1, 2, 4, 8, 16 or 32 units of 8 samples.
+    BlockSide = 7,
+    /// Levels, scan, source or inverse weights do not hold 64 numbers for each covered block.
+    BlockLength = 8,
+    /// The strategy code is above 26, or the channel above 2.
+    Strategy = 9,
+    /// A setting or the bias lies outside its bounds.
+    Settings = 10,
+    /// The scan does not hold each index once.
+    Scan = 11,
+    /// A level lies outside ±32,767.
+    Level = 12,
+    /// An ideal in the window is NaN or outside ±32,767.
+    Ideal = 13,
+    /// The room is too small for the search.
+    Room = 14,
+    /// Every choice in the trellis's band needs a token of infinite price.
+    BandInfinite = 15,
+    /// Every path that the beam kept ended at an infinite cost.
+    PathsInfinite = 16,
+    /// An argument lies outside the call's domain.
+    Domain = 17,
+}
+
+const ALL: [Refusal; 17] = [
+    Refusal::MapLength,
+    Refusal::BookLength,
+    Refusal::MapEntry,
+    Refusal::Configuration,
+    Refusal::SymbolPrice,
+    Refusal::ReadyPrice,
+    Refusal::BlockSide,
+    Refusal::BlockLength,
+    Refusal::Strategy,
+    Refusal::Settings,
+    Refusal::Scan,
+    Refusal::Level,
+    Refusal::Ideal,
+    Refusal::Room,
+    Refusal::BandInfinite,
+    Refusal::PathsInfinite,
+    Refusal::Domain,
+];
+
+impl Refusal {
+    /// The number that the library returns for it.
+    pub fn number(self) -> u8 {
+        self as u8
+    }
+
+    /// The refusal with a number of 1 to 17.
+    pub fn from_number(number: u8) -> Option<Refusal> {
+        ALL.into_iter().find(|r| r.number() == number)
+    }
+
+    fn remedy(self) -> &'static str {
+        match self {
+            Refusal::MapLength => "the context map is not 14,850 bytes, or the clusters are not 1 to 256: lend a byte for each context and 1 to 256 clusters",
+            Refusal::BookLength => "a part of the book has a wrong length: lend 3 bytes of configuration, 128 symbol prices and 256 ready prices for each cluster (of a prefix code: 128 depths and 1 flag), no more and no less",
+            Refusal::MapEntry => "an entry of the context map is not below the number of clusters: mend the map, or add clusters",
+            Refusal::Configuration => "a configuration (s, m, l) has s > 6, m + l > s, or 2^s + (17 - s) * 2^(m+l) > 128: use a smaller one, such as 4,2,0",
+            Refusal::SymbolPrice => "a symbol price is NaN, below 0, or finite and above 1,024: use +infinity for a symbol that can't be written",
+            Refusal::ReadyPrice => "a ready price is not symbol price plus extra bits: fill the book again after a change of prices or configurations",
+            Refusal::BlockSide => "a side of the block is not 1, 2, 4, 8, 16 or 32: pass the sides in units of 8 samples",
+            Refusal::BlockLength => "levels, scan, source or inverse weights do not hold 64 numbers for each covered block: lend exact lengths",
+            Refusal::Strategy => "the strategy code is above 26, or the channel above 2: channels are X = 0, Y = 1, B = 2",
+            Refusal::Settings => "a setting is NaN or outside its bounds: lambda 2^-20 to 2^20, penalty and channel weight 2^-10 to 2^10, distance 0 to 25, bias of one 0 to 2, numerator 0.145",
+            Refusal::Scan => "the scan does not hold each index of the block once: pass the scan order of this strategy",
+            Refusal::Level => "a level lies outside -32,767 to 32,767: quantise more coarsely",
+            Refusal::Ideal => "source * inverse weight * scale is NaN or outside -32,767 to 32,767 in the window: look for a failed transform or a wrong scale",
+            Refusal::Room => "the room is too small for this search: `Room::new` serves every block",
+            Refusal::BandInfinite => "every choice in the trellis's band needs a token of infinite price: give finite prices to the symbols that the block needs",
+            Refusal::PathsInfinite => "every path that the beam kept ended at an infinite cost: give finite prices to the symbols that the block needs",
+            Refusal::Domain => "an argument lies outside the call's domain: the call's documentation gives it",
+        }
+    }
+}
+
+impl fmt::Display for Refusal {
+    fn fmt(&self, f: &mut fmt::Formatter<'_>) -> fmt::Result {
+        write!(f, "refusal {}: {}", self.number(), self.remedy())
+    }
+}
+
+impl Error for Refusal {}
+
+/// A code of the library as a result.
+pub(crate) fn answered(code: u32) -> Result<(), Refusal> {
+    if code == 0 {
+        return Ok(());
+    }
+    match u8::try_from(code).ok().and_then(Refusal::from_number) {
+        Some(refusal) => Err(refusal),
+        None => panic!("librdoq_c.a returned {code}, which this crate does not know: build both from one state of the repository"),
+    }
+}

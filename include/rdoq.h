@@ -1,0 +1,206 @@
+/*
+ * The level search of a JPEG XL encoder, for one block.
+ *
+ * The functions are those of crates/rdoq_c, whose contracts are proved. Build the library with
+ *
+ *     rt staticlib rdoq_c        writes target/staticlib/librdoq_c.a
+ *
+ * and link that archive. It needs nothing but memset. x86-64 Linux only.
+ *
+ * Every call
+ *   - returns a code: 0 where it answers, else the number of the refusal (below);
+ *   - writes what it answers behind the pointers that come last, and only where the code is 0;
+ *   - reads and writes nothing but what is lent to it, allocates nothing and keeps nothing. So any number of calls may run at
+ *     once, on any threads, as long as none of them writes to memory that another is lent.
+ *
+ * An array is a pointer and its length in elements. The pointer is aligned for its type and points to at least that many elements.
+ * The arrays and variables that a call writes to overlap nothing else that it is lent. A bool is 0 or 1. These are the only duties
+ * of a caller: wrong lengths and wrong contents are refused by number.
+ *
+ * Refusals. The lowest number that applies is returned.
+ *
+ *    1  the map is not 14,850 bytes, or the clusters are not 1 to 256
+ *         Lend a byte for each context; name 1 to 256 clusters.
+ *    2  configs are not 3 bytes a cluster, symbols not 128 floats, ready not 256; of a prefix code: depths not 128 bytes, singles not 1
+ *         Lend the exact lengths; surplus is refused too.
+ *    3  an entry of the map is not below the number of clusters
+ *         Mend the map, or name more clusters.
+ *    4  a configuration (s, m, l) has s > 6, m + l > s, or 2^s + (17 - s) * 2^(m+l) > 128
+ *         Use a smaller one: 4,2,0 and 4,2,1 and 6,2,0 pass.
+ *    5  a symbol price is NaN, below 0, or finite and above 1,024
+ *         Use +infinity for a symbol that can't be written.
+ *    6  a ready price is not symbol price plus extra bits
+ *         Call rdoq_fill_ready after each change of a configuration or a symbol price.
+ *    7  a side of the block, in 8-sample units, is not 1, 2, 4, 8, 16 or 32
+ *         Pass the sides in units of 8 samples.
+ *    8  levels, scan, source or inverse weights do not hold 64 numbers for each covered block (cx * cy of them)
+ *         Lend the exact lengths.
+ *    9  the strategy code is above 26, or the channel above 2
+ *         Channels are X = 0, Y = 1, B = 2.
+ *   10  lambda is outside 2^-20 to 2^20, penalty or channel weight outside 2^-10 to 2^10, distance outside 0 to 25, the bias `one`
+ *       outside 0 to 2, one of these is NaN, or the bias numerator is not the float 0.145
+ *         Hold the settings within these bounds; pass RDOQ_BIAS_NUMERATOR.
+ *   11  the scan does not hold each of 0 to 64 * cx * cy - 1 once
+ *         Pass the scan order of this strategy.
+ *   12  a level at scan position cx * cy or later lies outside -32,767 to 32,767
+ *         Quantise more coarsely.
+ *   13  an ideal (source * inverse weight * scale) in the window is NaN or outside -32,767 to 32,767
+ *         Look for a failed transform, or for a wrong scale; the block keeps every level.
+ *   14  the room is too small for the search (see rdoq_block)
+ *         Lend more.
+ *   15  the trellis: every choice in its band needs a token of infinite price
+ *   16  the beam: every path that it kept ended at an infinite cost
+ *         Give finite prices to the symbols that the block needs, or keep the block as it is: no level was changed.
+ *   17  an argument lies outside the call's domain, or `search` names none
+ *         See the comment over the call.
+ */
+#ifndef RDOQ_H
+#define RDOQ_H
+
+#include <stdbool.h>
+#include <stddef.h>
+#include <stdint.h>
+
+#ifdef __cplusplus
+extern "C" {
+#endif
+
+#define RDOQ_GREEDY 0u
+#define RDOQ_BEAM 1u
+#define RDOQ_TRELLIS 2u
+
+#define RDOQ_CONTEXTS 14850u      /* bytes of a context map */
+#define RDOQ_SYMBOLS 128u         /* symbol prices of a cluster */
+#define RDOQ_READY 256u           /* ready prices of a cluster */
+#define RDOQ_BEAM_CHOICES 6u      /* choice bytes of a window position, for the beam */
+#define RDOQ_TRELLIS_CHOICES 28u  /* and for the trellis */
+#define RDOQ_ROW 28u              /* floats of a cost row */
+#define RDOQ_BIAS_NUMERATOR 0.145f
+
+/*
+ * A price book is lent in five parts that the caller keeps:
+ *   clusters   1 to 256
+ *   map        the cluster of each of the 14,850 contexts, a byte each
+ *   configs    three bytes a cluster: split exponent, msb in token, lsb in token
+ *   symbols    128 prices a cluster, in bits
+ *   ready      256 prices a cluster: those of the values 0 to 255, written by rdoq_fill_ready
+ */
+
+/* The first of refusals 1 to 6 that a book gets, or 0. */
+uint32_t rdoq_check_book(uint32_t clusters, const uint8_t *map, size_t map_len, const uint8_t *configs, size_t configs_len,
+                         const float *symbols, size_t symbols_len, const float *ready, size_t ready_len);
+
+/* Writes every ready price of a book. Returns 0, or the first of refusals 1 to 5 and writes nothing. */
+uint32_t rdoq_fill_ready(uint32_t clusters, const uint8_t *map, size_t map_len, const uint8_t *configs, size_t configs_len,
+                         const float *symbols, size_t symbols_len, float *ready, size_t ready_len);
+
+/*
+ * Writes every symbol price of a prefix code. depths has 128 bytes a cluster, singles a byte a cluster: not 0 where the cluster's
+ * code has a single symbol. A depth of 0 costs 15.0 (strict: +infinity); any other depth costs itself, or 0.0 where the symbol is
+ * the only one. Returns 0, or 1 or 2 and writes nothing.
+ */
+uint32_t rdoq_prefix_symbol_bits(uint32_t clusters, const uint8_t *depths, size_t depths_len, const uint8_t *singles,
+                                 size_t singles_len, bool strict, float *symbols, size_t symbols_len);
+
+/*
+ * Writes the price of a value of at most 131,071 in a context below 14,850. Returns 0, or 17 where context, value or a length of the
+ * book is wrong, or an entry that the price is made of.
+ */
+uint32_t rdoq_token_bits(uint32_t clusters, const uint8_t *map, size_t map_len, const uint8_t *configs, size_t configs_len,
+                         const float *symbols, size_t symbols_len, const float *ready, size_t ready_len, uint32_t context,
+                         uint32_t value, float *bits);
+
+/* The same in a context and the next one. */
+uint32_t rdoq_token_bits_pair(uint32_t clusters, const uint8_t *map, size_t map_len, const uint8_t *configs, size_t configs_len,
+                              const float *symbols, size_t symbols_len, const float *ready, size_t ready_len, uint32_t context,
+                              uint32_t value, float *first, float *second);
+
+/*
+ * Re-picks the levels of a block, in place.
+ *
+ *   search          RDOQ_GREEDY, RDOQ_BEAM or RDOQ_TRELLIS; any other number gets 17 and nothing changes
+ *   clusters..ready the price book
+ *   cx, cy          the block's sides in 8-sample units; c = cx * cy is the number of covered blocks
+ *   strategy, channel, qf_hi, predicted
+ *                   strategy code 0 to 26, channel (X = 0, Y = 1, B = 2), quant class, predicted count of nonzero levels
+ *   channel_weight, lambda, penalty, distance
+ *                   the settings; penalty multiplies lambda where a zero becomes nonzero
+ *   one, numerator  the channel's bias: the size of a level of 1, and RDOQ_BIAS_NUMERATOR
+ *   scale           the ideal at a position is (source * inv_qm) * scale
+ *   scan, source, inv_qm, levels
+ *                   64 * c numbers each; scan holds each index once, in scan order
+ *   choices, row_a, row_b
+ *                   working room, by the length n of the window (rdoq_window_len: 63 for c = 1, 126 for 2, 252 for 4, 504 for 8,
+ *                   1,008 for 16, 1,024 above):
+ *                     greedy   none
+ *                     beam     6 * n choice bytes
+ *                     trellis  28 * n choice bytes and two rows of 28 floats
+ *                   More is welcome: 28,672 bytes and two rows serve every block. What it holds before a call does not matter.
+ *   cost, count     written where the code is 0: the count of nonzero levels from scan position c on, and, by beam and trellis,
+ *                   the cost of the levels that were written. Greedy leaves cost as it was.
+ *
+ * After refusals 1 to 14 and 17 nothing that was lent has changed. After 15, after 16 and after an answer of the trellis or the
+ * beam every choice byte is 255 and every float of the rows +infinity. Greedy touches no room. The levels at scan positions below c
+ * and past the window never change, and a refused block keeps every level.
+ */
+uint32_t rdoq_block(uint32_t search, uint32_t clusters, const uint8_t *map, size_t map_len, const uint8_t *configs,
+                    size_t configs_len, const float *symbols, size_t symbols_len, const float *ready, size_t ready_len, uint32_t cx,
+                    uint32_t cy, uint8_t strategy, uint8_t channel, bool qf_hi, uint8_t predicted, float channel_weight,
+                    float lambda, float penalty, float distance, float one, float numerator, float scale, const uint32_t *scan,
+                    size_t scan_len, const float *source, size_t source_len, const float *inv_qm, size_t inv_qm_len,
+                    int32_t *levels, size_t levels_len, uint8_t *choices, size_t choices_len, float *row_a, size_t row_a_len,
+                    float *row_b, size_t row_b_len, float *cost, uint32_t *count);
+
+/* The leaves. Each returns 0, or 17 outside its domain. */
+
+/* The packed form of a level within -32,768 to 32,768: 2v where v >= 0, else -2v - 1. */
+uint32_t rdoq_pack_signed(int32_t level, uint32_t *packed);
+
+/* The symbol of a value of at most 131,071 under a configuration that passes check 4, how many extra bits it has, and the bits. */
+uint32_t rdoq_uint_encode_with_config(uint32_t value, uint32_t split_exponent, uint32_t msb_in_token, uint32_t lsb_in_token,
+                                      uint32_t *symbol, uint32_t *extra_bits, uint32_t *bits);
+
+/* The block context, below 30, of a channel of at most 2, a strategy code of at most 26 and a quant class. */
+uint32_t rdoq_fine_block_context(uint32_t channel, uint32_t strategy, bool qf_hi, uint32_t *context);
+
+/* The context of a block's nonzero count, by its predicted count, any number, and a block context below 30. */
+uint32_t rdoq_fine_non_zero_context(uint32_t non_zeros, uint32_t fine_block_ctx, uint32_t *context);
+
+/* The first coefficient context of a block context below 30. */
+uint32_t rdoq_fine_zero_density_contexts_offset(uint32_t fine_block_ctx, uint32_t *offset);
+
+/*
+ * The context, below 458, of the coefficient at scan position k within its block context. nonzeros_left counts the nonzero levels from
+ * k on: 1 to 64c - k. covered_blocks, c, is a power of two of at most 1,024, k is c to 64c - 1, prev 0 or 1.
+ */
+uint32_t rdoq_zero_density_context(uint32_t nonzeros_left, uint32_t k, uint32_t covered_blocks, uint32_t prev, uint32_t *context);
+
+/* The same for one covered block. */
+uint32_t rdoq_zero_density_context_8x8(uint32_t nonzeros_left, uint32_t k, uint32_t prev, uint32_t *context);
+
+/* The value that a decoder restores from a level within -32,768 to 32,768, by a bias that passes check 10. */
+uint32_t rdoq_level(float one, float numerator, int32_t quant, float *level);
+
+/* Lambda from two constants of the encoder and the quant field ratio, which is not NaN. */
+uint32_t rdoq_lambda(float rd, float tuning, float ratio, float *lambda);
+
+/* The multiplier of chroma distortion at a distance of 0 to 25. */
+uint32_t rdoq_chroma_rdoq_weight(float distance, float *weight);
+
+/* The weight of a position in a window of at most 1,024, at an index of at most the length, at a distance of 0 to 25. */
+uint32_t rdoq_distortion_weight(uint32_t window_index, uint32_t window_len, float distance, float *weight);
+
+/*
+ * The levels that may be picked for a coefficient, the current one first, and how many there are, 1 to 5. levels has room for exactly
+ * five; past the count stands 0, or where `restore` is true the current level. current and ideal lie within -32,767 to 32,767.
+ */
+uint32_t rdoq_candidates(float ideal, int32_t current, bool restore, int32_t *levels, size_t levels_len, uint32_t *count);
+
+/* How many positions a search covers, and how many of them it may restore. covered_blocks is a power of two of at most 1,024. */
+uint32_t rdoq_window_len(uint32_t covered_blocks, size_t *length, size_t *restoring);
+
+#ifdef __cplusplus
+}
+#endif
+
+#endif
