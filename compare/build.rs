@@ -11,6 +11,8 @@ fn main() {
     let out = PathBuf::from(env::var("OUT_DIR").unwrap());
     println!("cargo:rerun-if-env-changed=JIXEL_SRC");
     println!("cargo:rerun-if-changed=src/doors");
+    // The static library that the bench links.
+    println!("cargo:rustc-link-search=native={}", here.join("../target/staticlib").display());
     // Features of the Rust's own, all off.
     println!("cargo:rustc-check-cfg=cfg(feature, values(\"extraslow\", \"neon\"))");
     let rust = match env::var("JIXEL_SRC") {

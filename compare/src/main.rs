@@ -162,9 +162,9 @@ fn batch(options: &Options, class: usize, from: u64, to: u64, said: &AtomicU64) 
     let mut lines = match &printed {
         Some(Ok(text)) => Some(text.lines()),
         Some(Err(fault)) => {
+            // Nothing that is due was printed.
             println!("{fault}");
-            tally.of(Search::Greedy).differences += 1;
-            None
+            Some("".lines())
         }
         None => None,
     };
@@ -290,6 +290,7 @@ fn main() -> std::process::ExitCode {
         differences += files::compare_unreadable(program, options.seed, options.files);
     }
     sound &= differences == 0;
+    println!("{}", report::LEGEND);
     println!("{differences} differences; {:.1} s", start.elapsed().as_secs_f32());
     u8::from(!sound).into()
 }

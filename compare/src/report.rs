@@ -27,6 +27,7 @@ pub struct Counts {
     /// Refusals that were due, by number.
     pub refused: BTreeMap<u32, u64>,
     pub differences: u64,
+    /// Blocks on which the Rust was not run.
     pub not_compared: u64,
 }
 
@@ -60,14 +61,20 @@ impl Tally {
 
 impl Counts {
     pub fn due(&mut self, source: Source, number: Option<u32>) {
-        match number {
-            Some(number) => *self.refused.entry(number).or_default() += 1,
-            None => debug_assert!(source == Source::Rust),
+        if let Some(number) = number {
+            *self.refused.entry(number).or_default() += 1;
         }
+        self.not_compared += u64::from(matches!(source, Source::Checks | Source::NoChoice));
     }
 }
 
-pub const HEADER: &str = "  c       blocks  search     compared        equal  with ties      changed   with a half  differ  refused as due (number: times)";
+pub const HEADER: &str =
+    "      c    blocks  search     compared      equal  with ties    changed  with a half  not compared  differ  refused as due (number: times)";
+
+pub const LEGEND: &str = "\
+compared: the levels with the Rust's, cost and count with the definition's for them. with ties, changed, with a half: of these, where a search met equal costs, changed a level, or may
+restore an ideal that is an exact half. not compared: refused by one of checks 1 to 14, which narrow the Rust's domain, or by 15, where the Rust has no answer; held to the number and to an
+untouched block. 16: the Rust left the block too.";
 
 pub fn row(class: &str, tally: &Tally, left_out: &[Search]) -> String {
     let mut text = String::new();
@@ -75,7 +82,7 @@ pub fn row(class: &str, tally: &Tally, left_out: &[Search]) -> String {
         let refused: Vec<String> = counts.refused.iter().map(|(number, times)| format!("{number}: {times}")).collect();
         let note = if left_out.contains(search) { "  (the port's was left out)" } else { "" };
         text += &format!(
-            "{class:>7} {:>9}  {:<8} {:>10} {:>12} {:>10} {:>12} {:>13} {:>7}  {}{note}\n",
+            "{class:>7} {:>9}  {:<8} {:>10} {:>10} {:>10} {:>10} {:>12} {:>13} {:>7}  {}{note}\n",
             tally.blocks,
             format!("{search:?}"),
             counts.compared,
@@ -83,6 +90,7 @@ pub fn row(class: &str, tally: &Tally, left_out: &[Search]) -> String {
             counts.ties,
             counts.changed,
             counts.halves,
+            counts.not_compared,
             counts.differences,
             refused.join(", "),
         );

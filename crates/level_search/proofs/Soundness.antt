@@ -1,8 +1,8 @@
 -- What the program knows, for buffers of other lengths. Assumes nothing.
-use Prim.Native.Nat.{ℕ, _≤_}
+use Prim.Native.Nat.{ℕ}
 use mathlib.Core.Path.{_≡_, subst}
 use native.Mathlib.Omega.{arith}
-use Rattle.level_search.specs.Held.{HeldIn, Sound}
+use Rattle.level_search.specs.Held.{Sound}
 use Rattle.level_search.specs.declared.State.{State}
 
 pub carry : {n n′ m m′ : ℕ} {s : State} → n ≡ n′ → m ≡ m′ → Sound n m s → Sound n′ m′ s

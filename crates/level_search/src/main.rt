@@ -1,4 +1,6 @@
 // Reads a block file on standard input. For each block prints three lines, one for each search: what it answers and which levels it changes.
+// A record that is cut short, has an unknown tag or asks for more than the program holds (see `block_file::record`) ends the run with a line that names its
+// first byte. A byte other than 0 says the high quant class.
 mod input;
 mod output;
 mod room;

@@ -3,101 +3,79 @@ use native.Mathlib.Omega.{arith}
 use borrow.Author.Needs.{needs}
 use Rattle.level_search.proofs.search_block.Statement.{statement}
 use Rattle.level_search.proofs.search_block.Tie as tie
-use Rattle.level_search.proofs.search_block.Reads as reads
-use Rattle.level_search.proofs.search_block.Lts as lts
-use Rattle.level_search.proofs.search.search_all.Reads as search-all-reads
 
--- src/main.rt:133:9
 slice-aggregate-search-all : tie.Need-slice-aggregate-search-all
 slice-aggregate-search-all c =
     let start = c .before .before .before .before .before .before .before .before .before .before .before .before .pre in
     simp length-take (omega arith)
 
--- src/main.rt:134:9
 slice-aggregate-search-all-2 : tie.Need-slice-aggregate-search-all-2
 slice-aggregate-search-all-2 c =
     let start = c .before .before .before .before .before .before .before .before .before .before .before .before .before .pre in
     simp length-take (omega arith)
 
--- src/main.rt:135:9
 slice-aggregate-search-all-3 : tie.Need-slice-aggregate-search-all-3
 slice-aggregate-search-all-3 c =
     let start = c .before .before .before .before .before .before .before .before .before .before .before .before .before .before .pre in
     simp length-take (omega arith)
 
--- src/main.rt:136:9
 slice-aggregate-search-all-4 : tie.Need-slice-aggregate-search-all-4
 slice-aggregate-search-all-4 c =
     let start = c .before .before .before .before .before .before .before .before .before .before .before .before .before .before .before .pre in
     simp length-take (omega arith)
 
--- src/main.rt:137:9
 slice-relend-prefix-search-all : tie.Need-slice-relend-prefix-search-all
 slice-relend-prefix-search-all c = search needs
 
--- src/main.rt:137:9
 slice-aggregate-search-all-5 : tie.Need-slice-aggregate-search-all-5
 slice-aggregate-search-all-5 c =
     let start = c .before .before .before .before .before .before .before .before .before .before .before .before .before .before .before .before .pre in
     simp length-take (omega arith)
 
--- src/main.rt:138:9
 slice-relend-prefix-search-all-2 : tie.Need-slice-relend-prefix-search-all-2
 slice-relend-prefix-search-all-2 c = search needs
 
--- src/main.rt:138:9
 slice-aggregate-search-all-6 : tie.Need-slice-aggregate-search-all-6
 slice-aggregate-search-all-6 c =
     let start = c .before .before .before .before .before .before .before .before .before .before .before .before .before .before .before .before .before .pre in
     simp length-take (omega arith)
 
--- src/main.rt:139:9
 slice-relend-prefix-search-all-3 : tie.Need-slice-relend-prefix-search-all-3
 slice-relend-prefix-search-all-3 c = search needs
 
--- src/main.rt:139:9
 slice-aggregate-search-all-7 : tie.Need-slice-aggregate-search-all-7
 slice-aggregate-search-all-7 c =
     let start = c .before .before .before .before .before .before .before .before .before .before .before .before .before .before .before .before .before .before .pre in
     simp length-take (omega arith)
 
--- src/main.rt:140:9
 slice-relend-prefix-search-all-4 : tie.Need-slice-relend-prefix-search-all-4
 slice-relend-prefix-search-all-4 c = search needs
 
--- src/main.rt:140:9
 slice-aggregate-search-all-8 : tie.Need-slice-aggregate-search-all-8
 slice-aggregate-search-all-8 c =
     let start = c .before .before .before .before .before .before .before .before .before .before .before .before .before .before .before .before .before .before .before .pre in
     simp length-take (omega arith)
 
--- src/main.rt:125:5
 search-all-requires : tie.Need-search-all-requires
 search-all-requires c κs =
     let start = c .before .before .before .before .before .before .before .before .before .before .before .before .before .before .before .before .before .before .before .before .pre in
     simp length-take (omega arith)
 
--- src/main.rt:92:1
 same-length : tie.Need-same-length
 same-length c = search needs
 
--- src/main.rt:92:1
 same-length-2 : tie.Need-same-length-2
 same-length-2 c = search needs
 
--- src/main.rt:92:1
 same-length-3 : tie.Need-same-length-3
 same-length-3 c = search needs
 
--- src/main.rt:92:1
 same-length-4 : tie.Need-same-length-4
 same-length-4 c = search needs
 
--- src/main.rt:92:1
 same-length-5 : tie.Need-same-length-5
 same-length-5 c = search needs
 
--- src/main.rt:92:1
 returns : tie.Need-returns
 returns c = search needs
 

@@ -2,33 +2,21 @@ use native.Mathlib.Omega.{arith}
 use borrow.Author.Needs.{needs}
 use Rattle.level_search.proofs.take_block.Statement.{statement}
 use Rattle.level_search.proofs.take_block.Tie as tie
-use Rattle.level_search.proofs.take_block.Reads as reads
-use Rattle.level_search.proofs.take_block.Lts as lts
-use Rattle.block_file.proofs.fields.head_at.Reads as head-at-reads
-use Rattle.block_file.proofs.record.block_record.Reads as block-record-reads
-use Rattle.level_search.proofs.load_block.Reads as load-block-reads
-use Rattle.level_search.proofs.rooms_at.Reads as rooms-at-reads
-use Rattle.level_search.proofs.search_block.Reads as search-block-reads
 
--- src/main.rt:172:9
 head-at-requires : tie.Need-head-at-requires
 head-at-requires c κs = search needs
 
--- src/main.rt:173:9
 rooms-at-requires : tie.Need-rooms-at-requires
 rooms-at-requires c κs = search needs
 
--- src/main.rt:174:9
 block-record-requires : tie.Need-block-record-requires
 block-record-requires c κs = search needs
 
--- src/main.rt:175:5
 load-block-requires : tie.Need-load-block-requires
 load-block-requires c κs =
     let start = c .before .before .before .before .before .before .before .before .before .before .before .before .before .before .before .before .before .before .before .pre in
     (c .before .before .before .before .block-record .ensures .0, (search needs))
 
--- src/main.rt:176:5
 search-block-requires : tie.Need-search-block-requires
 search-block-requires c κs =
     let start = c .before .before .before .before .before .before .before .before .before .before .before .before .before .before .before .before .before .before .before .before .before .before .before .before .before .before .before .before .before .before .before .before .before .before .before .before .pre in
@@ -37,43 +25,33 @@ search-block-requires c κs =
     let loaded = c .before .before .before .before .before .before .before .before .before .before .before .before .before .before .before .before .load-block .kept in
     omega arith
 
--- src/main.rt:147:1
 same-length : tie.Need-same-length
 same-length c = search needs
 
--- src/main.rt:147:1
 same-length-2 : tie.Need-same-length-2
 same-length-2 c = search needs
 
--- src/main.rt:147:1
 same-length-3 : tie.Need-same-length-3
 same-length-3 c = search needs
 
--- src/main.rt:147:1
 same-length-4 : tie.Need-same-length-4
 same-length-4 c = search needs
 
--- src/main.rt:147:1
 same-length-5 : tie.Need-same-length-5
 same-length-5 c = search needs
 
--- src/main.rt:147:1
 same-length-6 : tie.Need-same-length-6
 same-length-6 c = search needs
 
--- src/main.rt:147:1
 same-length-7 : tie.Need-same-length-7
 same-length-7 c = search needs
 
--- src/main.rt:147:1
 same-length-8 : tie.Need-same-length-8
 same-length-8 c = search needs
 
--- src/main.rt:147:1
 same-length-9 : tie.Need-same-length-9
 same-length-9 c = search needs
 
--- src/main.rt:147:1
 returns : tie.Need-returns
 returns c = search needs
 

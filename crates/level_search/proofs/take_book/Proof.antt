@@ -2,57 +2,40 @@ use native.Mathlib.Omega.{arith}
 use borrow.Author.Needs.{needs}
 use Rattle.level_search.proofs.take_book.Statement.{statement}
 use Rattle.level_search.proofs.take_book.Tie as tie
-use Rattle.level_search.proofs.take_book.Reads as reads
-use Rattle.level_search.proofs.take_book.Lts as lts
-use Rattle.block_file.proofs.fields.word_at.Reads as word-at-reads
-use Rattle.block_file.proofs.load.take_bytes.Reads as take-bytes-reads
-use Rattle.block_file.proofs.load.take_floats.Reads as take-floats-reads
-use Rattle.block_file.proofs.record.book_record.Reads as book-record-reads
 
--- src/main.rt:40:9
 book-record-requires : tie.Need-book-record-requires
 book-record-requires c κs = search needs
 
--- src/main.rt:41:5
 take-bytes-requires : tie.Need-take-bytes-requires
 take-bytes-requires c κs = search needs
 
--- src/main.rt:42:5
 take-bytes-requires-2 : tie.Need-take-bytes-requires-2
 take-bytes-requires-2 c κs = search needs
 
--- src/main.rt:43:5
 take-floats-requires : tie.Need-take-floats-requires
 take-floats-requires c κs = search needs
 
--- src/main.rt:44:5
 take-floats-requires-2 : tie.Need-take-floats-requires-2
 take-floats-requires-2 c κs =
     let start = c .before .before .before .before .before .before .before .before .before .before .before .before .before .before .before .before .before .before .before .pre in
     let lists = c .before .before .before .before .before .before .before .before .before .before .before .before .before .book-record .ensures in
     omega arith
 
--- src/main.rt:46:19
 word-at-requires : tie.Need-word-at-requires
 word-at-requires c κs = search needs
 
--- src/main.rt:29:1
 same-length : tie.Need-same-length
 same-length c = search needs
 
--- src/main.rt:29:1
 same-length-2 : tie.Need-same-length-2
 same-length-2 c = search needs
 
--- src/main.rt:29:1
 same-length-3 : tie.Need-same-length-3
 same-length-3 c = search needs
 
--- src/main.rt:29:1
 same-length-4 : tie.Need-same-length-4
 same-length-4 c = search needs
 
--- src/main.rt:29:1
 returns : tie.Need-returns
 returns c = search needs
 

@@ -3,48 +3,34 @@ use native.Mathlib.Omega.{arith}
 use borrow.Author.Needs.{needs}
 use Rattle.level_search.proofs.take_record.Statement.{statement}
 use Rattle.level_search.proofs.take_record.Tie as tie
-use Rattle.level_search.proofs.take_record.Reads as reads
-use Rattle.level_search.proofs.take_record.Lts as lts
-use Rattle.level_search.proofs.take_block.Reads as take-block-reads
-use Rattle.level_search.proofs.take_book.Reads as take-book-reads
-use Rattle.std.proofs.num.wrapping_add_u64.Reads as wrapping-add-u64-reads
 
--- src/main.rt:237:30
 sub-take-book : tie.Need-sub-take-book
 sub-take-book c = search needs
 
--- src/main.rt:237:30
 part-take-book-start : tie.Need-part-take-book-start
 part-take-book-start c = search needs
 
--- src/main.rt:237:30
 part-take-book-end : tie.Need-part-take-book-end
 part-take-book-end c = search needs
 
--- src/main.rt:237:13
 take-book-requires : tie.Need-take-book-requires
 take-book-requires c κs =
     let start = c .before .before .before .before .before .before .before .before .before .before .before .before .before .before .before .before .before .before .before .before .before .pre in
     let long = start .0 .held .book (c .before .before .before .before .before .if1 .taken) in
     simp (length-take, length-drop) (omega arith)
 
--- src/main.rt:238:9
 same-length : tie.Need-same-length
 same-length c = search needs
 
--- src/main.rt:238:9
 same-length-2 : tie.Need-same-length-2
 same-length-2 c = search needs
 
--- src/main.rt:238:9
 same-length-3 : tie.Need-same-length-3
 same-length-3 c = search needs
 
--- src/main.rt:238:9
 same-length-4 : tie.Need-same-length-4
 same-length-4 c = search needs
 
--- src/main.rt:238:9
 returns : tie.Need-returns
 returns c =
     let sound = c .before .before .before .before .before .before .before .before .before .before .before .before .before .before .before .before .before .before .before .before .before .before .before .before .before .before .before .before .before .before .pre .0 in
@@ -58,122 +44,95 @@ returns c =
       ready = taken .1 .1 .1;
     }
 
--- src/main.rt:251:13
 sub-take-block : tie.Need-sub-take-block
 sub-take-block c = search needs
 
--- src/main.rt:251:13
 part-take-block-start : tie.Need-part-take-block-start
 part-take-block-start c = search needs
 
--- src/main.rt:251:13
 part-take-block-end : tie.Need-part-take-block-end
 part-take-block-end c = search needs
 
--- src/main.rt:254:13
 slice-reshare-prefix-take-block : tie.Need-slice-reshare-prefix-take-block
 slice-reshare-prefix-take-block c = search needs
 
--- src/main.rt:254:13
 slice-aggregate-take-block : tie.Need-slice-aggregate-take-block
 slice-aggregate-take-block c =
     let start = c .before .before .before .before .before .before .before .before .before .before .before .before .before .before .before .before .before .before .before .before .pre in
     simp length-take (omega arith)
 
--- src/main.rt:255:13
 slice-reshare-prefix-take-block-2 : tie.Need-slice-reshare-prefix-take-block-2
 slice-reshare-prefix-take-block-2 c = search needs
 
--- src/main.rt:255:13
 slice-aggregate-take-block-2 : tie.Need-slice-aggregate-take-block-2
 slice-aggregate-take-block-2 c =
     let start = c .before .before .before .before .before .before .before .before .before .before .before .before .before .before .before .before .before .before .before .before .before .pre in
     simp length-take (omega arith)
 
--- src/main.rt:256:13
 slice-reshare-prefix-take-block-3 : tie.Need-slice-reshare-prefix-take-block-3
 slice-reshare-prefix-take-block-3 c = search needs
 
--- src/main.rt:256:13
 slice-aggregate-take-block-3 : tie.Need-slice-aggregate-take-block-3
 slice-aggregate-take-block-3 c =
     let start = c .before .before .before .before .before .before .before .before .before .before .before .before .before .before .before .before .before .before .before .before .before .before .pre in
     simp length-take (omega arith)
 
--- src/main.rt:257:13
 slice-reshare-prefix-take-block-4 : tie.Need-slice-reshare-prefix-take-block-4
 slice-reshare-prefix-take-block-4 c = search needs
 
--- src/main.rt:257:13
 slice-aggregate-take-block-4 : tie.Need-slice-aggregate-take-block-4
 slice-aggregate-take-block-4 c =
     let start = c .before .before .before .before .before .before .before .before .before .before .before .before .before .before .before .before .before .before .before .before .before .before .before .pre in
     simp length-take (omega arith)
 
--- src/main.rt:250:13
 take-block-requires : tie.Need-take-block-requires
 take-block-requires c κs =
     let start = c .before .before .before .before .before .before .before .before .before .before .before .before .before .before .before .before .before .before .before .before .before .before .before .before .before .before .before .before .before .before .before .before .pre in
     let long = start .0 .held .block (c .before .before .before .before .before .before .before .before .before .before .before .before .before .before .if2 .taken) in
     simp (length-take, length-drop) (omega arith)
 
--- src/main.rt:272:21
 wrapping-add-u64-requires : tie.Need-wrapping-add-u64-requires
 wrapping-add-u64-requires c κs = search needs
 
--- src/main.rt:269:9
 same-length-5 : tie.Need-same-length-5
 same-length-5 c = search needs
 
--- src/main.rt:269:9
 same-length-6 : tie.Need-same-length-6
 same-length-6 c = search needs
 
--- src/main.rt:269:9
 same-length-7 : tie.Need-same-length-7
 same-length-7 c = search needs
 
--- src/main.rt:269:9
 same-length-8 : tie.Need-same-length-8
 same-length-8 c = search needs
 
--- src/main.rt:269:9
 same-length-9 : tie.Need-same-length-9
 same-length-9 c = search needs
 
--- src/main.rt:269:9
 same-length-10 : tie.Need-same-length-10
 same-length-10 c = search needs
 
--- src/main.rt:269:9
 same-length-11 : tie.Need-same-length-11
 same-length-11 c = search needs
 
--- src/main.rt:269:9
 same-length-12 : tie.Need-same-length-12
 same-length-12 c = search needs
 
--- src/main.rt:269:9
 same-length-13 : tie.Need-same-length-13
 same-length-13 c = search needs
 
--- src/main.rt:269:9
 same-length-14 : tie.Need-same-length-14
 same-length-14 c = search needs
 
--- src/main.rt:269:9
 same-length-15 : tie.Need-same-length-15
 same-length-15 c = search needs
 
--- src/main.rt:269:9
 same-length-16 : tie.Need-same-length-16
 same-length-16 c = search needs
 
--- src/main.rt:269:9
 same-length-17 : tie.Need-same-length-17
 same-length-17 c = search needs
 
--- src/main.rt:269:9
 returns-2 : tie.Need-returns-2
 returns-2 c =
     let sound = c .before .before .before .before .before .before .before .before .before .before .before .before .before .before .before .before .before .before .before .before .before .before .before .before .before .before .before .before .before .before .before .before .before .before .before .before .before .before .before .before .before .before .before .before .before .before .before .before .before .before .pre .0 in
@@ -186,7 +145,6 @@ returns-2 c =
       ready = sound .ready;
     }
 
--- src/main.rt:208:1
 returns-3 : tie.Need-returns-3
 returns-3 c = search needs
 

@@ -5,24 +5,18 @@ use Rattle.block_file.proofs.Numbers.{reads-nan, no-nan}
 use borrow.Author.Needs.{needs}
 use Rattle.block_file.proofs.fields.float_of.Statement.{statement}
 use Rattle.block_file.proofs.fields.float_of.Tie as tie
-use Rattle.block_file.proofs.fields.float_of.Reads as reads
-use Rattle.block_file.proofs.fields.float_of.Lts as lts
 
--- src/fields.rt:36:24
 float-from-bits-infinity : tie.Need-float-from-bits-infinity
 unfolding nanBits
 float-from-bits-infinity c = tt
 
--- src/fields.rt:37:9
 returns : tie.Need-returns
 unfolding ofBits sub
 returns c = sym (reads-nan _ (c .if1 .taken))
 
--- src/fields.rt:39:5
 float-from-bits-result : tie.Need-float-from-bits-result
 float-from-bits-result c = no-nan _ (omega arith)
 
--- src/fields.rt:32:1
 returns-2 : tie.Need-returns-2
 returns-2 c = search needs
 

@@ -2,30 +2,22 @@ use Rattle.block_file.proofs.Numbers.{below-fits, below-bits}
 use borrow.Author.Needs.{needs}
 use Rattle.block_file.proofs.fields.level_of.Statement.{statement}
 use Rattle.block_file.proofs.fields.level_of.Tie as tie
-use Rattle.block_file.proofs.fields.level_of.Reads as reads
-use Rattle.block_file.proofs.fields.level_of.Lts as lts
 
--- src/fields.rt:54:16
 cast-result : tie.Need-cast-result
 cast-result c = search needs
 
--- src/fields.rt:54:9
 returns : tie.Need-returns
 returns c = search needs
 
--- src/fields.rt:56:11
 sub-result : tie.Need-sub-result
 sub-result c = search needs
 
--- src/fields.rt:56:10
 cast-result-2 : tie.Need-cast-result-2
 cast-result-2 c = search needs
 
--- src/fields.rt:56:5
 sub-result-2 : tie.Need-sub-result-2
 sub-result-2 c = below-fits _ (c .if1 .left) (c .before .fits .bits .fits)
 
--- src/fields.rt:50:1
 returns-2 : tie.Need-returns-2
 returns-2 c = below-bits _ (c .if1 .left) (c .before .fits .bits .fits)
 

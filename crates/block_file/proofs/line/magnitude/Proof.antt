@@ -1,32 +1,23 @@
 use native.Mathlib.Omega.{arith}
 use Rattle.block_file.proofs.Digits.{back, mirrored-fits, mirrored-back, negative, not-negative, not-larger}
-use borrow.Author.Needs.{needs}
 use Rattle.block_file.proofs.line.magnitude.Statement.{statement}
 use Rattle.block_file.proofs.line.magnitude.Tie as tie
-use Rattle.block_file.proofs.line.magnitude.Reads as reads
-use Rattle.block_file.proofs.line.magnitude.Lts as lts
 
--- src/line.rt:84:11
 sub-result : tie.Need-sub-result
 sub-result c = mirrored-fits (c .before .args .level) (c .before .fits .level) (c .if1 .taken)
 
--- src/line.rt:84:10
 cast-result : tie.Need-cast-result
 cast-result c = rw (mirrored-back (c .before .args .level) (c .before .fits .level) (c .if1 .taken)) (tt, record { fits = omega (arith, c .before .fits .level .sfits) })
 
--- src/line.rt:84:9
 add-result : tie.Need-add-result
 add-result c = rw (mirrored-back (c .before .args .level) (c .before .fits .level) (c .if1 .taken)) (record { fits = omega (arith, c .before .fits .level .sfits) })
 
--- src/line.rt:86:9
 cast-result-2 : tie.Need-cast-result-2
 cast-result-2 c = rw (back (c .before .args .level) (c .before .fits .level)) (not-negative (c .before .args .level) (c .before .fits .level) (c .if1 .left), record { fits = omega (arith, c .before .fits .level .sfits, not-larger (c .before .args .level)) })
 
--- src/line.rt:80:1
 returns : tie.Need-returns
 returns c = rw (mirrored-back (c .before .args .level) (c .before .fits .level) (c .if1 .taken)) (negative (c .before .args .level) (c .before .fits .level) (c .if1 .taken))
 
--- src/line.rt:80:1
 returns-2 : tie.Need-returns-2
 returns-2 c = rw (back (c .before .args .level) (c .before .fits .level))
 

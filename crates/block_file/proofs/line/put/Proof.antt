@@ -4,8 +4,6 @@ use lib.ListN.{length}
 use borrow.Author.Needs.{needs}
 use Rattle.block_file.proofs.line.put.Statement.{statement}
 use Rattle.block_file.proofs.line.put.Tie as tie
-use Rattle.block_file.proofs.line.put.Reads as reads
-use Rattle.block_file.proofs.line.put.Lts as lts
 
 abbrev Inv-loop : tie.InvT-loop
 Inv-loop out₀ at text i₀ i-end out i = (i-end ≡ length text) × ((i ≤ i-end) × (length out ≡ length out₀))
@@ -13,43 +11,33 @@ Inv-loop out₀ at text i₀ i-end out i = (i-end ≡ length text) × ((i ≤ i-
 abbrev μ-loop : tie.MeasureT-loop
 μ-loop out₀ at text i₀ i-end out i = i-end - i
 
--- src/line.rt:17:5
 loop-holds : tie.Need-loop-holds Inv-loop μ-loop
 loop-holds c = search needs
 
--- src/line.rt:18:23
 shared-slice-read-out : tie.Need-shared-slice-read-out Inv-loop μ-loop
 shared-slice-read-out c = search needs
 
--- src/line.rt:18:13
 add-out : tie.Need-add-out Inv-loop μ-loop
 add-out c = search needs
 
--- src/line.rt:18:9
 slice-write-out : tie.Need-slice-write-out Inv-loop μ-loop
 slice-write-out c = search needs
 
--- src/line.rt:17:9
 add-i : tie.Need-add-i Inv-loop μ-loop
 add-i c = search needs
 
--- src/line.rt:17:5
 loop-less : tie.Need-loop-less Inv-loop μ-loop
 loop-less c = search needs
 
--- src/line.rt:17:5
 loop-again : tie.Need-loop-again Inv-loop μ-loop
 loop-again c = search needs
 
--- src/line.rt:20:5
 add-result : tie.Need-add-result Inv-loop μ-loop
 add-result c = search needs
 
--- src/line.rt:13:1
 same-length : tie.Need-same-length Inv-loop μ-loop
 same-length c = search needs
 
--- src/line.rt:13:1
 returns : tie.Need-returns Inv-loop μ-loop
 returns c = search needs
 

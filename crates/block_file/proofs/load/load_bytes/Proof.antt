@@ -1,19 +1,14 @@
-use mathlib.Core.Path.{_≡_, refl, ap, subst, _∙_}
-use mathlib.Core.List.{List, _++_}
-use Prim.Native.Nat.{ℕ, _+_, _*_, _-_, _<_, _≤_, zero-le}
+use mathlib.Core.Path.{_≡_, refl, subst}
+use mathlib.Core.List.{_++_}
+use Prim.Native.Nat.{ℕ, _+_, _-_, _<_, _≤_, zero-le}
 use native.Mathlib.Numerals.{add-one-le}
 use native.Mathlib.Omega.{arith}
-use lib.ListN.{length, set, drop, getD, length-set}
-use lib.Ieee.{ofBits, binary32}
-use mir.Val.{toZ}
-use mir.Syntax.{w32}
+use lib.ListN.{length, drop, getD, length-set}
 use Rattle.block_file.proofs.Fill.{fill-none, fill-more, filled}
-use Rattle.block_file.specs.Word.{wordAt, listed}
+use Rattle.block_file.specs.Word.{listed}
 use borrow.Author.Needs.{needs}
 use Rattle.block_file.proofs.load.load_bytes.Statement.{statement}
 use Rattle.block_file.proofs.load.load_bytes.Tie as tie
-use Rattle.block_file.proofs.load.load_bytes.Reads as reads
-use Rattle.block_file.proofs.load.load_bytes.Lts as lts
 
 abbrev Inv-loop : tie.InvT-loop
 Inv-loop bytes start out₀ i₀ i-end out i =
@@ -22,42 +17,33 @@ Inv-loop bytes start out₀ i₀ i-end out i =
 abbrev μ-loop : tie.MeasureT-loop
 μ-loop bytes start out₀ i₀ i-end out i = i-end - i
 
--- src/load.rt:15:5
 loop-holds : tie.Need-loop-holds Inv-loop μ-loop
 loop-holds c = (refl, (zero-le, (fill-none _ _, refl)))
 
--- src/load.rt:16:24
 add-out : tie.Need-add-out Inv-loop μ-loop
 add-out c = search needs
 
--- src/load.rt:16:18
 shared-slice-read-out : tie.Need-shared-slice-read-out Inv-loop μ-loop
 shared-slice-read-out c = search needs
 
--- src/load.rt:16:9
 slice-write-out : tie.Need-slice-write-out Inv-loop μ-loop
 slice-write-out c = search needs
 
--- src/load.rt:15:9
 add-i : tie.Need-add-i Inv-loop μ-loop
 add-i c = search needs
 
--- src/load.rt:15:5
 loop-less : tie.Need-loop-less Inv-loop μ-loop
 loop-less c = omega arith
 
--- src/load.rt:15:5
 loop-again : tie.Need-loop-again Inv-loop μ-loop
 loop-again c =
     let at = c .before .before in
     let inv = at .loop .inv in
     (inv .0, (add-one-le (c .before .loop-test .taken), (fill-more _ _ _ (subst (λ (k : ℕ). at .loop .i < k) (inv .0) (c .before .loop-test .taken)) refl (inv .1 .1 .0), simp length-set (inv .1 .1 .1))))
 
--- src/load.rt:11:1
 same-length : tie.Need-same-length Inv-loop μ-loop
 same-length c = search needs
 
--- src/load.rt:11:1
 returns : tie.Need-returns Inv-loop μ-loop
 returns c =
     let at = c .before .loop in

@@ -1,11 +1,10 @@
 use mir.ValLaws.{toZ-ofZ}
-use mathlib.Core.Path.{_≡_, refl, ap, subst, _∙_}
-use mathlib.Core.List.{List, _++_}
+use mathlib.Core.Path.{_≡_, refl, subst, _∙_}
+use mathlib.Core.List.{_++_}
 use Prim.Native.Nat.{ℕ, _+_, _*_, _-_, _<_, _≤_, zero-le}
 use native.Mathlib.Numerals.{add-one-le}
 use native.Mathlib.Omega.{arith}
-use lib.ListN.{length, set, drop, getD, length-set}
-use lib.Ieee.{ofBits, binary32}
+use lib.ListN.{length, drop, length-set}
 use mir.Val.{toZ}
 use mir.Syntax.{w32}
 use Rattle.block_file.proofs.Fill.{fill-none, fill-more, filled}
@@ -13,9 +12,6 @@ use Rattle.block_file.specs.Word.{wordAt, listed}
 use borrow.Author.Needs.{needs}
 use Rattle.block_file.proofs.load.load_levels.Statement.{statement}
 use Rattle.block_file.proofs.load.load_levels.Tie as tie
-use Rattle.block_file.proofs.load.load_levels.Reads as reads
-use Rattle.block_file.proofs.load.load_levels.Lts as lts
-use Rattle.block_file.proofs.fields.level_at.Reads as level-at-reads
 
 abbrev Inv-loop : tie.InvT-loop
 Inv-loop bytes start out₀ i₀ i-end out i =
@@ -24,50 +20,39 @@ Inv-loop bytes start out₀ i₀ i-end out i =
 abbrev μ-loop : tie.MeasureT-loop
 μ-loop bytes start out₀ i₀ i-end out i = i-end - i
 
--- src/load.rt:45:5
 loop-holds : tie.Need-loop-holds Inv-loop μ-loop
 loop-holds c = (refl, (zero-le, (fill-none _ _, refl)))
 
--- src/load.rt:46:42
 mul-level-at : tie.Need-mul-level-at Inv-loop μ-loop
 mul-level-at c = search needs
 
--- src/load.rt:46:34
 add-level-at : tie.Need-add-level-at Inv-loop μ-loop
 add-level-at c = search needs
 
--- src/load.rt:46:18
 level-at-requires : tie.Need-level-at-requires Inv-loop μ-loop
 level-at-requires c κs = search needs
 
--- src/load.rt:46:9
 mul-t10 : tie.Need-mul-t10 Inv-loop μ-loop
 mul-t10 c = search needs
 
--- src/load.rt:46:9
 slice-set-from-out : tie.Need-slice-set-from-out Inv-loop μ-loop
 slice-set-from-out c = search needs
 
--- src/load.rt:45:9
 add-i : tie.Need-add-i Inv-loop μ-loop
 add-i c = search needs
 
--- src/load.rt:45:5
 loop-less : tie.Need-loop-less Inv-loop μ-loop
 loop-less c = omega arith
 
--- src/load.rt:45:5
 loop-again : tie.Need-loop-again Inv-loop μ-loop
 loop-again c =
     let at = c .before .before in
     let inv = at .loop .inv in
     (inv .0, (add-one-le (c .before .loop-test .taken), (fill-more _ _ _ (subst (λ (k : ℕ). at .loop .i < k) (inv .0) (c .before .loop-test .taken)) (toZ-ofZ w32 (c .level-at .result) (record { sfits = c .level-at .ok }) ∙ c .level-at .ensures) (inv .1 .1 .0), simp length-set (inv .1 .1 .1))))
 
--- src/load.rt:41:1
 same-length : tie.Need-same-length Inv-loop μ-loop
 same-length c = search needs
 
--- src/load.rt:41:1
 returns : tie.Need-returns Inv-loop μ-loop
 returns c =
     let at = c .before .loop in

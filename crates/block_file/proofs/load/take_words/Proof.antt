@@ -3,27 +3,19 @@ use native.Mathlib.Omega.{arith}
 use borrow.Author.Needs.{needs}
 use Rattle.block_file.proofs.load.take_words.Statement.{statement}
 use Rattle.block_file.proofs.load.take_words.Tie as tie
-use Rattle.block_file.proofs.load.take_words.Reads as reads
-use Rattle.block_file.proofs.load.take_words.Lts as lts
-use Rattle.block_file.proofs.load.load_words.Reads as load-words-reads
 
--- src/load.rt:66:30
 slice-relend-prefix-load-words : tie.Need-slice-relend-prefix-load-words
 slice-relend-prefix-load-words c = search needs
 
--- src/load.rt:66:30
 slice-aggregate-load-words : tie.Need-slice-aggregate-load-words
 slice-aggregate-load-words c = simp length-take (omega arith)
 
--- src/load.rt:66:5
 load-words-requires : tie.Need-load-words-requires
 load-words-requires c κs = simp length-take (omega arith)
 
--- src/load.rt:61:1
 same-length : tie.Need-same-length
 same-length c = search needs
 
--- src/load.rt:61:1
 returns : tie.Need-returns
 returns c = search needs
 

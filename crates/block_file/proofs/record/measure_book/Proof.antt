@@ -4,24 +4,16 @@ use native.Mathlib.Omega.{arith}
 use borrow.Author.Needs.{needs}
 use Rattle.block_file.proofs.record.measure_book.Statement.{statement}
 use Rattle.block_file.proofs.record.measure_book.Tie as tie
-use Rattle.block_file.proofs.record.measure_book.Reads as reads
-use Rattle.block_file.proofs.record.measure_book.Lts as lts
-use Rattle.block_file.proofs.record.book_record.Reads as book-record-reads
-use Rattle.block_file.proofs.record.ended_by.Reads as ended-by-reads
 
--- src/record.rt:231:9
 returns : tie.Need-returns
 returns c = search needs
 
--- src/record.rt:236:9
 book-record-requires : tie.Need-book-record-requires
 book-record-requires c κs = search needs
 
--- src/record.rt:237:5
 ended-by-requires : tie.Need-ended-by-requires
 ended-by-requires c κs = search needs
 
--- src/record.rt:227:1
 returns-2 : tie.Need-returns-2
 returns-2 c =
     let other : c .ended-by .result .kind ≡ 4 → _≡_ {A = ℕ} 3 4 = c .ended-by .ensures .1 .1 in

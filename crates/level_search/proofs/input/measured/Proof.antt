@@ -3,27 +3,19 @@ use native.Mathlib.Omega.{arith}
 use borrow.Author.Needs.{needs}
 use Rattle.level_search.proofs.input.measured.Statement.{statement}
 use Rattle.level_search.proofs.input.measured.Tie as tie
-use Rattle.level_search.proofs.input.measured.Reads as reads
-use Rattle.level_search.proofs.input.measured.Lts as lts
-use Rattle.block_file.proofs.record.measure.Reads as measure-reads
 
--- src/input.rt:43:33
 sub-measure : tie.Need-sub-measure
 sub-measure c = search needs
 
--- src/input.rt:43:33
 part-measure-start : tie.Need-part-measure-start
 part-measure-start c = search needs
 
--- src/input.rt:43:33
 part-measure-end : tie.Need-part-measure-end
 part-measure-end c = search needs
 
--- src/input.rt:43:9
 measure-requires : tie.Need-measure-requires
 measure-requires c κs = search needs
 
--- src/input.rt:39:1
 returns : tie.Need-returns
 returns c =
     let found = c .measure .ensures in

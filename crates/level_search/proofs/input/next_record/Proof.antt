@@ -5,11 +5,6 @@ use Rattle.level_search.specs.Held.{HeldIn}
 use borrow.Author.Needs.{needs}
 use Rattle.level_search.proofs.input.next_record.Statement.{statement}
 use Rattle.level_search.proofs.input.next_record.Tie as tie
-use Rattle.level_search.proofs.input.next_record.Reads as reads
-use Rattle.level_search.proofs.input.next_record.Lts as lts
-use Rattle.level_search.proofs.input.measured.Reads as measured-reads
-use Rattle.level_search.proofs.input.read_on.Reads as read-on-reads
-use Rattle.std.proofs.num.wrapping_add_u64.Reads as wrapping-add-u64-reads
 
 abbrev Inv-loop : tie.InvT-loop
 Inv-loop input₀ passed start held₀ turns₀ input held turns = HeldIn (length input₀) held × (length input ≡ length input₀)
@@ -17,59 +12,45 @@ Inv-loop input₀ passed start held₀ turns₀ input held turns = HeldIn (lengt
 abbrev μ-loop : tie.MeasureT-loop
 μ-loop input₀ passed start held₀ turns₀ input held turns = turns
 
--- src/input.rt:94:9
 wrapping-add-u64-requires : tie.Need-wrapping-add-u64-requires Inv-loop μ-loop
 wrapping-add-u64-requires c κs = search needs
 
--- src/input.rt:95:17
 add-start : tie.Need-add-start Inv-loop μ-loop
 add-start c = search needs
 
--- src/input.rt:96:9
 measured-requires : tie.Need-measured-requires Inv-loop μ-loop
 measured-requires c κs = search needs
 
--- src/input.rt:99:5
 loop-holds : tie.Need-loop-holds Inv-loop μ-loop
 loop-holds c = (c .measured .ensures, refl)
 
--- src/input.rt:100:9
 read-on-requires : tie.Need-read-on-requires Inv-loop μ-loop
 read-on-requires c κs = search needs
 
--- src/input.rt:102:13
 same-length : tie.Need-same-length Inv-loop μ-loop
 same-length c = search needs
 
--- src/input.rt:102:13
 returns : tie.Need-returns Inv-loop μ-loop
 returns c = subst (λ (n : ℕ). HeldIn n (c .before .before .before .before .read-on .result)) (c .before .before .before .before .before .before .before .before .before .loop .inv .1) (c .before .before .before .before .read-on .ensures)
 
--- src/input.rt:104:9
 sub-turns : tie.Need-sub-turns Inv-loop μ-loop
 sub-turns c = search needs
 
--- src/input.rt:99:5
 loop-less : tie.Need-loop-less Inv-loop μ-loop
 loop-less c = search needs
 
--- src/input.rt:99:5
 loop-again : tie.Need-loop-again Inv-loop μ-loop
 loop-again c = (subst (λ (n : ℕ). HeldIn n (c .before .before .before .before .read-on .result)) (c .before .before .before .before .before .before .before .before .before .loop .inv .1) (c .before .before .before .before .read-on .ensures), search needs)
 
--- src/input.rt:90:1
 same-length-2 : tie.Need-same-length-2 Inv-loop μ-loop
 same-length-2 c = search needs
 
--- src/input.rt:90:1
 returns-2 : tie.Need-returns-2 Inv-loop μ-loop
 returns-2 c = c .before .before .before .loop .inv .0
 
--- src/input.rt:90:1
 same-length-3 : tie.Need-same-length-3 Inv-loop μ-loop
 same-length-3 c = search needs
 
--- src/input.rt:90:1
 returns-3 : tie.Need-returns-3 Inv-loop μ-loop
 returns-3 c = c .before .loop .inv .0
 

@@ -3,27 +3,19 @@ use native.Mathlib.Omega.{arith}
 use borrow.Author.Needs.{needs}
 use Rattle.level_search.proofs.output.make_room.Statement.{statement}
 use Rattle.level_search.proofs.output.make_room.Tie as tie
-use Rattle.level_search.proofs.output.make_room.Reads as reads
-use Rattle.level_search.proofs.output.make_room.Lts as lts
-use Rattle.io.proofs.write_all.Reads as write-all-reads
 
--- src/output.rt:14:8
 sub-if1 : tie.Need-sub-if1
 sub-if1 c = search needs
 
--- src/output.rt:15:38
 slice-aggregate-write-all : tie.Need-slice-aggregate-write-all
 slice-aggregate-write-all c = simp length-take (omega arith)
 
--- src/output.rt:15:9
 write-all-requires : tie.Need-write-all-requires
 write-all-requires c κs = search needs
 
--- src/output.rt:16:9
 returns : tie.Need-returns
 returns c = search needs
 
--- src/output.rt:10:1
 returns-2 : tie.Need-returns-2
 returns-2 c = search needs
 

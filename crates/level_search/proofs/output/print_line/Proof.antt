@@ -5,11 +5,6 @@ use lib.ListN.{length}
 use borrow.Author.Needs.{needs}
 use Rattle.level_search.proofs.output.print_line.Statement.{statement}
 use Rattle.level_search.proofs.output.print_line.Tie as tie
-use Rattle.level_search.proofs.output.print_line.Reads as reads
-use Rattle.level_search.proofs.output.print_line.Lts as lts
-use Rattle.block_file.proofs.line.put_head.Reads as put-head-reads
-use Rattle.level_search.proofs.output.make_room.Reads as make-room-reads
-use Rattle.level_search.proofs.output.print_change.Reads as print-change-reads
 
 abbrev Inv-loop : tie.InvT-loop
 Inv-loop out₀ used number name before after at end₀ i₀ out end i = (i ≤ length before) × ((length out ≡ length out₀) × (end ≤ length out))
@@ -17,70 +12,54 @@ Inv-loop out₀ used number name before after at end₀ i₀ out end i = (i ≤ 
 abbrev μ-loop : tie.MeasureT-loop
 μ-loop out₀ used number name before after at end₀ i₀ out end i = length before - i
 
--- src/output.rt:47:9
 make-room-requires : tie.Need-make-room-requires Inv-loop μ-loop
 make-room-requires c κs = search needs
 
--- src/output.rt:48:9
 put-head-requires : tie.Need-put-head-requires Inv-loop μ-loop
 put-head-requires c κs = search needs
 
--- src/output.rt:50:5
 loop-holds : tie.Need-loop-holds Inv-loop μ-loop
 loop-holds c = search needs
 
--- src/output.rt:51:41
 mul-print-change : tie.Need-mul-print-change Inv-loop μ-loop
 mul-print-change c = search needs
 
--- src/output.rt:51:41
 shared-slice-copy-out-print-change : tie.Need-shared-slice-copy-out-print-change Inv-loop μ-loop
 shared-slice-copy-out-print-change c = search needs
 
--- src/output.rt:51:52
 mul-print-change-2 : tie.Need-mul-print-change-2 Inv-loop μ-loop
 mul-print-change-2 c = search needs
 
--- src/output.rt:51:52
 shared-slice-copy-out-print-change-2 :
     tie.Need-shared-slice-copy-out-print-change-2 Inv-loop μ-loop
 shared-slice-copy-out-print-change-2 c = search needs
 
--- src/output.rt:51:9
 print-change-requires : tie.Need-print-change-requires Inv-loop μ-loop
 print-change-requires c κs = search needs
 
--- src/output.rt:52:9
 add-i : tie.Need-add-i Inv-loop μ-loop
 add-i c = search needs
 
--- src/output.rt:50:5
 loop-less : tie.Need-loop-less Inv-loop μ-loop
 loop-less c = search needs
 
--- src/output.rt:50:5
 loop-again : tie.Need-loop-again Inv-loop μ-loop
 loop-again c = search needs
 
--- src/output.rt:54:9
 make-room-requires-2 : tie.Need-make-room-requires-2 Inv-loop μ-loop
 make-room-requires-2 c κs = search needs
 
--- src/output.rt:55:5
 slice-write-out : tie.Need-slice-write-out Inv-loop μ-loop
 slice-write-out c = search needs
 
--- src/output.rt:56:5
 add-result : tie.Need-add-result Inv-loop μ-loop
 add-result c = search needs
 
--- src/output.rt:34:1
 same-length : tie.Need-same-length Inv-loop μ-loop
 same-length c =
     let headed : length (c .before .before .before .loop .out) ≡ length (c .before .before .before .before .before .before .before .before .before .before .before .before .args .out .now) = search needs in
     simp length-set headed
 
--- src/output.rt:34:1
 returns : tie.Need-returns Inv-loop μ-loop
 returns c = search needs
 

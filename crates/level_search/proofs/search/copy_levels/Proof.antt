@@ -4,8 +4,6 @@ use lib.ListN.{length}
 use borrow.Author.Needs.{needs}
 use Rattle.level_search.proofs.search.copy_levels.Statement.{statement}
 use Rattle.level_search.proofs.search.copy_levels.Tie as tie
-use Rattle.level_search.proofs.search.copy_levels.Reads as reads
-use Rattle.level_search.proofs.search.copy_levels.Lts as lts
 
 abbrev Inv-loop : tie.InvT-loop
 Inv-loop from to₀ i₀ i-end to i = (i-end ≡ length from) × ((i ≤ i-end) × (length to ≡ length to₀))
@@ -13,43 +11,33 @@ Inv-loop from to₀ i₀ i-end to i = (i-end ≡ length from) × ((i ≤ i-end) 
 abbrev μ-loop : tie.MeasureT-loop
 μ-loop from to₀ i₀ i-end to i = i-end - i
 
--- src/search.rt:20:5
 loop-holds : tie.Need-loop-holds Inv-loop μ-loop
 loop-holds c = search needs
 
--- src/search.rt:21:17
 mul-to : tie.Need-mul-to Inv-loop μ-loop
 mul-to c = search needs
 
--- src/search.rt:21:17
 shared-slice-copy-out-to : tie.Need-shared-slice-copy-out-to Inv-loop μ-loop
 shared-slice-copy-out-to c = search needs
 
--- src/search.rt:21:9
 mul-t9 : tie.Need-mul-t9 Inv-loop μ-loop
 mul-t9 c = search needs
 
--- src/search.rt:21:9
 slice-set-from-to : tie.Need-slice-set-from-to Inv-loop μ-loop
 slice-set-from-to c = search needs
 
--- src/search.rt:20:9
 add-i : tie.Need-add-i Inv-loop μ-loop
 add-i c = search needs
 
--- src/search.rt:20:5
 loop-less : tie.Need-loop-less Inv-loop μ-loop
 loop-less c = search needs
 
--- src/search.rt:20:5
 loop-again : tie.Need-loop-again Inv-loop μ-loop
 loop-again c = search needs
 
--- src/search.rt:17:1
 same-length : tie.Need-same-length Inv-loop μ-loop
 same-length c = search needs
 
--- src/search.rt:17:1
 returns : tie.Need-returns Inv-loop μ-loop
 returns c = search needs
 

@@ -4,9 +4,6 @@ use lib.ListN.{length}
 use borrow.Author.Needs.{needs}
 use Rattle.level_search.proofs.search.search_all.Statement.{statement}
 use Rattle.level_search.proofs.search.search_all.Tie as tie
-use Rattle.level_search.proofs.search.search_all.Reads as reads
-use Rattle.level_search.proofs.search.search_all.Lts as lts
-use Rattle.level_search.proofs.search.search_one.Reads as search-one-reads
 
 abbrev Inv-loop : tie.InvT-loop
 Inv-loop number clusters map configs symbols ready head scan source inv-qm levels work₀ choices₀ row-a₀ row-b₀ out₀ used end₀ search₀ work choices row-a row-b out end search =
@@ -16,47 +13,36 @@ abbrev μ-loop : tie.MeasureT-loop
 μ-loop number clusters map configs symbols ready head scan source inv-qm levels work₀ choices₀ row-a₀ row-b₀ out₀ used end₀ search₀ work choices row-a row-b out end search =
     3 - search
 
--- src/search.rt:177:5
 loop-holds : tie.Need-loop-holds Inv-loop μ-loop
 loop-holds c = search needs
 
--- src/search.rt:178:9
 search-one-requires : tie.Need-search-one-requires Inv-loop μ-loop
 search-one-requires c κs = search needs
 
--- src/search.rt:177:9
 add-search : tie.Need-add-search Inv-loop μ-loop
 add-search c = search needs
 
--- src/search.rt:177:5
 loop-less : tie.Need-loop-less Inv-loop μ-loop
 loop-less c = search needs
 
--- src/search.rt:177:5
 loop-again : tie.Need-loop-again Inv-loop μ-loop
 loop-again c = search needs
 
--- src/search.rt:153:1
 same-length : tie.Need-same-length Inv-loop μ-loop
 same-length c = search needs
 
--- src/search.rt:153:1
 same-length-2 : tie.Need-same-length-2 Inv-loop μ-loop
 same-length-2 c = search needs
 
--- src/search.rt:153:1
 same-length-3 : tie.Need-same-length-3 Inv-loop μ-loop
 same-length-3 c = search needs
 
--- src/search.rt:153:1
 same-length-4 : tie.Need-same-length-4 Inv-loop μ-loop
 same-length-4 c = search needs
 
--- src/search.rt:153:1
 same-length-5 : tie.Need-same-length-5 Inv-loop μ-loop
 same-length-5 c = search needs
 
--- src/search.rt:153:1
 returns : tie.Need-returns Inv-loop μ-loop
 returns c = search needs
 
