@@ -1,1 +1,3 @@
 pub mod Apart
+pub mod Over
+pub mod By
