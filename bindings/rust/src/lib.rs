@@ -45,8 +45,9 @@ mod search;
 
 pub use book::{Book, BookBuilder, Pricing, CONTEXTS, READY, SYMBOLS};
 pub use leaves::{
-    candidates, chroma_weight, distortion_weight, fine_block_context, fine_non_zero_context, fine_zero_density_contexts_offset, lambda, level,
-    pack_signed, uint_encode_with_config, window_len, zero_density_context, zero_density_context_8x8, Config, Split, Window,
+    candidates, chroma_weight, distortion_weight, fine_block_context, fine_non_zero_context, fine_zero_density_contexts_offset,
+    lambda, level, pack_signed, uint_encode_with_config, window_len, zero_density_context, zero_density_context_8x8, Config, Split,
+    Window,
 };
 pub use refusal::Refusal;
 pub use search::{rdoq_block, Answer, Bias, Block, Room, Search, Settings, Shape};
