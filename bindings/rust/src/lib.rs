@@ -13,7 +13,7 @@
 //!     .symbol_prices((0..SYMBOLS).map(|s| 1.0 + s as f32 * 0.25).collect())
 //!     .fill()?;
 //! let scan: Vec<u32> = (0..64).collect();
-//! let source: Vec<f32> = (0..64).map(|i| 6.0 / (1.0 + i as f32)).collect();
+//! let source: Vec<f32> = (0..64).map(|i| 5.9 / (1.0 + i as f32)).collect();
 //! let block = Block {
 //!     shape: Shape { cx: 1, cy: 1, strategy: 0, channel: 1, qf_hi: false, predicted: 4 },
 //!     settings: Settings { channel_weight: 1.0, lambda: 0.1, penalty: 1.0, distance: 1.0 },
