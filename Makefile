@@ -39,16 +39,22 @@ run:
 	@target/bin/level_search < $(SAMPLE) > target/run.out
 	@tools/explain.sh < target/run.out
 
-# Without a C compiler or without cargo, that part is left out, and said so.
+CC_STRICT := gcc -std=c99 -Wall -Wextra -Werror -Iinclude
+STATICLIB := target/staticlib/librdoq_c.a
+
+# Without gcc or without cargo, that part is left out, and said so.
 bindings:
+	@tools/readme_snippets.sh
 	@mkdir -p target
 	@rt staticlib rdoq_c > target/staticlib.log 2>&1 || { cat target/staticlib.log >&2; exit 1; }
 	@if command -v gcc > /dev/null; then \
-	    gcc -std=c99 -Wall -Wextra -Werror -o target/example_c bindings/c/example.c target/staticlib/librdoq_c.a -lm && target/example_c && \
-	    echo 'bindings: the C example answers as it should'; \
-	else echo 'bindings: no gcc here: the C example is left out'; fi
+	    $(CC_STRICT) -o target/example_c bindings/c/example.c $(STATICLIB) -lm && target/example_c && \
+	    $(CC_STRICT) -o target/quick_start_c bindings/c/quick_start.c $(STATICLIB) && target/quick_start_c && \
+	    echo 'bindings: the C programs answer as they should'; \
+	else echo 'bindings: no gcc here: the C programs are left out'; fi
 	@if command -v cargo > /dev/null; then \
-	    (cd bindings/rust && cargo test --offline) && echo 'bindings: the tests of the Rust crate pass'; \
+	    (cd bindings/rust && cargo test --offline && cargo run --quiet --offline --example quick_start) && \
+	    echo 'bindings: the tests of the Rust crate pass'; \
 	else echo 'bindings: no cargo here: the tests of the Rust crate are left out'; fi
 
 compare:

@@ -3,7 +3,7 @@
 #include <stdio.h>
 #include <string.h>
 
-#include "../../include/rdoq.h"
+#include "rdoq.h"
 
 enum { N = 64, WINDOW = 63 };
 

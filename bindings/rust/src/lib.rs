@@ -13,7 +13,7 @@
 //!     .symbol_prices((0..SYMBOLS).map(|s| 1.0 + s as f32 * 0.25).collect())
 //!     .fill()?;
 //! let scan: Vec<u32> = (0..64).collect();
-//! let source: Vec<f32> = (0..64).map(|i| 6.0 / (1.0 + i as f32)).collect();
+//! let source: Vec<f32> = (0..64).map(|i| 5.9 / (1.0 + i as f32)).collect();
 //! let block = Block {
 //!     shape: Shape { cx: 1, cy: 1, strategy: 0, channel: 1, qf_hi: false, predicted: 4 },
 //!     settings: Settings { channel_weight: 1.0, lambda: 0.1, penalty: 1.0, distance: 1.0 },
@@ -45,8 +45,9 @@ mod search;
 
 pub use book::{Book, BookBuilder, Pricing, CONTEXTS, READY, SYMBOLS};
 pub use leaves::{
-    candidates, chroma_weight, distortion_weight, fine_block_context, fine_non_zero_context, fine_zero_density_contexts_offset, lambda, level,
-    pack_signed, uint_encode_with_config, window_len, zero_density_context, zero_density_context_8x8, Config, Split, Window,
+    candidates, chroma_weight, distortion_weight, fine_block_context, fine_non_zero_context, fine_zero_density_contexts_offset,
+    lambda, level, pack_signed, uint_encode_with_config, window_len, zero_density_context, zero_density_context_8x8, Config, Split,
+    Window,
 };
 pub use refusal::Refusal;
 pub use search::{rdoq_block, Answer, Bias, Block, Room, Search, Settings, Shape};

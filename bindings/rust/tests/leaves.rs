@@ -1,8 +1,8 @@
 //! The price book and the leaf calls, within their domains and outside. Expected numbers are worked out by hand from the definitions.
 use rdoq::{
-    candidates, chroma_weight, distortion_weight, fine_block_context, fine_non_zero_context, fine_zero_density_contexts_offset, lambda, level,
-    pack_signed, uint_encode_with_config, window_len, zero_density_context, zero_density_context_8x8, Bias, Book, BookBuilder,
-    Config, Pricing, Refusal, Split, Window, CONTEXTS, SYMBOLS,
+    candidates, chroma_weight, distortion_weight, fine_block_context, fine_non_zero_context, fine_zero_density_contexts_offset,
+    lambda, level, pack_signed, uint_encode_with_config, window_len, zero_density_context, zero_density_context_8x8, Bias, Book,
+    BookBuilder, Config, Pricing, Refusal, Split, Window, CONTEXTS, SYMBOLS,
 };
 use std::collections::HashSet;
 use std::error::Error;
