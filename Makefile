@@ -24,7 +24,7 @@ export JIXEL_SRC
 # rt's closing line, 'N passed, 0 failed', is kept back and printed last.
 test:
 	rt fmt --check
-	@rt ci | awk 'NR > 1 { print last } { last = $$0 } END { print last > "target/verdict.txt" }'
+	@rt ci | awk 'NR > 1 { print last; fflush() } { last = $$0 } END { print last > "target/verdict.txt" }'
 	@$(MAKE) bindings > target/bindings.log 2>&1 || { cat target/bindings.log; exit 1; }
 	@grep '^bindings:' target/bindings.log
 	@if command -v cargo > /dev/null && [ -f "$(JIXEL_SRC)/src/group/trellis.rs" ]; then $(MAKE) compare N=100; \

@@ -85,6 +85,31 @@ pub fn random_block(random: &mut Random, c: usize) -> Block {
     block
 }
 
+/// A block of one covered block, all of it zero.
+pub fn empty_block() -> Block {
+    Block {
+        cx: 1,
+        cy: 1,
+        strategy: 0,
+        channel: 1,
+        quant_class: false,
+        predicted: 0,
+        channel_weight: 1.0,
+        lambda: 1.0,
+        penalty: 1.0,
+        distance: 1.0,
+        one: 1.0,
+        numerator: 0.145,
+        scale: 1.0,
+        choices: 28 * 63,
+        rows: [28; 2],
+        levels: vec![0; 64],
+        scan: (0..64).collect(),
+        source: vec![0.0; 64],
+        inverse: vec![1.0; 64],
+    }
+}
+
 fn settings(random: &mut Random, block: &mut Block) {
     let two = |n: i32| 2f32.powi(n);
     let third = random.between(-8.0, 8.0).exp2();

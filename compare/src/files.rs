@@ -166,6 +166,30 @@ fn listed(seed: u64) -> Vec<(usize, u64)> {
     list
 }
 
+/// A book of one cluster with split 4,2,0 and these symbol prices.
+fn one_cluster(symbols: impl Fn(usize) -> f32) -> Book {
+    let mut book = Book { clusters: 1, map: vec![0; 14850], configs: vec![4, 2, 0], ..Book::default() };
+    book.symbols = (0..128).map(symbols).collect();
+    books::fill_ready(&mut book);
+    book
+}
+
+/// Document 01's examples of a search: an all-zero block, every symbol at price 1 and then at +infinity; and a block with coefficients that
+/// are not numbers between two good ones.
+fn examples() -> Vec<(Book, Vec<Block>)> {
+    let zeros = Block { lambda: 3.0, channel: 1, ..blocks::empty_block() };
+    let mut good = zeros.clone();
+    good.source[1..6].copy_from_slice(&[4.6, -3.2, 1.75, 0.25, 0.75]);
+    good.levels[1..6].copy_from_slice(&[5, -3, 2, 0, 1]);
+    let mut failed = good.clone();
+    failed.source[3..5].fill(f32::NAN);
+    vec![
+        (one_cluster(|_| 1.0), vec![zeros.clone()]),
+        (one_cluster(|_| f32::INFINITY), vec![zeros]),
+        (one_cluster(|symbol| 0.5 + 0.25 * symbol as f32), vec![good.clone(), failed, good]),
+    ]
+}
+
 /// Writes the fixed list as a program's `stdin` and `stdout`: the blocks, and the Rust's answers.
 pub fn write_list(folder: &str, seed: u64) {
     let (mut file, mut text) = (Vec::new(), String::new());
@@ -183,8 +207,18 @@ pub fn write_list(folder: &str, seed: u64) {
         block.write(&mut file);
         text += &lines(&mut original, number, &book, &block);
     }
+    let mut number = list.len();
+    for (book, blocks) in examples() {
+        book.write(&mut file);
+        original.take(&book);
+        for block in blocks {
+            block.write(&mut file);
+            text += &lines(&mut original, number, &book, &block);
+            number += 1;
+        }
+    }
     let path = |name: &str| format!("{folder}/{name}");
     std::fs::write(path("stdin"), file).expect("stdin is written");
     std::fs::write(path("stdout"), text).expect("stdout is written");
-    println!("{} blocks with the Rust's answers in {folder}; each rule decides one of them", list.len());
+    println!("{number} blocks with the Rust's answers in {folder}; each rule decides one of them");
 }
