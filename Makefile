@@ -2,7 +2,7 @@
 # make run        the main program on a sample
 # make bindings   the static library, the C example and the tests of the Rust crate
 # make compare N=1000 CLASSES=1,2 SEED=1 WITHOUT=beam
-#                 N blocks of each size class, by the Rust and by this port (compare/README.md says what is compared)
+#                 the leaf calls, and N blocks of each size class, by the Rust and by this port (compare/README.md says what is compared)
 # make bench      times beside the Rust's
 
 SHELL := bash
@@ -61,7 +61,9 @@ compare:
 	@command -v cargo > /dev/null || { echo 'make compare needs cargo, and the Rust in the folder that JIXEL_SRC names'; exit 2; }
 	@mkdir -p target
 	@rt check level_search > target/compare.log 2>&1 || { cat target/compare.log >&2; exit 1; }
-	@cargo build --quiet --release --offline --manifest-path compare/Cargo.toml --bin compare
+	@rt staticlib rdoq_c > target/staticlib.log 2>&1 || { cat target/staticlib.log >&2; exit 1; }
+	@cargo build --quiet --release --offline --manifest-path compare/Cargo.toml --bin compare --bin leaves
+	@compare/target/release/leaves
 	@compare/target/release/compare $(N) --seed $(SEED) --port target/bin/level_search $(if $(CLASSES),--classes $(CLASSES)) $(if $(WITHOUT),--without $(WITHOUT))
 
 bench:

@@ -36,3 +36,11 @@ pub(crate) fn from_prefix(book: &mut Book, prefix_codes: Vec<PrefixCode>) {
     book.symbols = made.symbol_bits.concat();
     book.ready = made.small_value_bits;
 }
+
+pub(crate) fn token_bits(prices: &FrozenTokenPrices, context: u32, value: u32) -> f32 {
+    prices.token_bits(super::Token::new(context, value))
+}
+
+pub(crate) fn token_bits_pair(prices: &FrozenTokenPrices, context: u32, value: u32) -> [f32; 2] {
+    prices.token_bits_pair(context, value)
+}

@@ -3,3 +3,7 @@
 pub(crate) fn bias(one: f32) -> super::DequantBias {
     super::DequantBias::new(one)
 }
+
+pub(crate) fn level(one: f32, quant: i32) -> f32 {
+    bias(one).level(quant)
+}

@@ -41,3 +41,16 @@ pub(crate) fn run(
         &mut scratch.0,
     );
 }
+
+/// The leaves of trellis.rs.
+pub(crate) fn candidates(ideal: f32, current: i32, restore: bool) -> ([i32; 5], usize) {
+    super::rdoq_candidates(ideal, current, restore)
+}
+
+pub(crate) fn distortion_weight(index: usize, length: usize, distance: f32) -> f32 {
+    super::rdoq_distortion_weight(index, length, distance)
+}
+
+pub(crate) fn window_len(covered: usize) -> (usize, usize) {
+    super::rdoq_window_len(covered)
+}

@@ -1,0 +1,280 @@
+//! Compares the leaf calls of the static library with the Rust's, over their whole domain where that is feasible. See README.md beside this crate.
+//!
+//! Packing, splitting and `fast_round` are not in the Rust's text; for them the stand-ins of document 01's rules decide.
+
+#[path = "../books.rs"]
+#[allow(dead_code)]
+mod books;
+#[path = "../checks.rs"]
+#[allow(dead_code)]
+mod checks;
+#[path = "../data.rs"]
+#[allow(dead_code)]
+mod data;
+#[path = "../plain.rs"]
+#[allow(dead_code)]
+mod plain;
+#[path = "../random.rs"]
+#[allow(dead_code)]
+mod random;
+#[path = "../stand_ins.rs"]
+#[allow(dead_code)]
+mod stand_ins;
+
+use crate::ac_context as contexts;
+use crate::entropy::entropy_code::door as prices;
+use crate::group::door as bias;
+use crate::group::trellis::{chroma_rdoq_weight, door as trellis};
+use random::Random;
+use stand_ins::*;
+
+include!(concat!(env!("OUT_DIR"), "/original.rs"));
+
+#[link(name = "rdoq_c", kind = "static")]
+extern "C" {
+    fn rdoq_pack_signed(level: i32, packed: *mut u32) -> u32;
+    fn rdoq_uint_encode_with_config(value: u32, s: u32, m: u32, l: u32, symbol: *mut u32, extra: *mut u32, bits: *mut u32) -> u32;
+    fn rdoq_fine_block_context(channel: u32, strategy: u32, qf_hi: bool, context: *mut u32) -> u32;
+    fn rdoq_fine_non_zero_context(non_zeros: u32, block: u32, context: *mut u32) -> u32;
+    fn rdoq_fine_zero_density_contexts_offset(block: u32, offset: *mut u32) -> u32;
+    fn rdoq_zero_density_context(left: u32, k: u32, covered: u32, prev: u32, context: *mut u32) -> u32;
+    fn rdoq_zero_density_context_8x8(left: u32, k: u32, prev: u32, context: *mut u32) -> u32;
+    fn rdoq_level(one: f32, numerator: f32, quant: i32, level: *mut f32) -> u32;
+    fn rdoq_chroma_rdoq_weight(distance: f32, weight: *mut f32) -> u32;
+    fn rdoq_distortion_weight(index: u32, length: u32, distance: f32, weight: *mut f32) -> u32;
+    fn rdoq_candidates(ideal: f32, current: i32, restore: bool, levels: *mut i32, levels_len: usize, count: *mut u32) -> u32;
+    fn rdoq_window_len(covered: u32, length: *mut usize, restoring: *mut usize) -> u32;
+    fn rdoq_token_bits(
+        clusters: u32, map: *const u8, map_len: usize, configs: *const u8, configs_len: usize, symbols: *const f32, symbols_len: usize,
+        ready: *const f32, ready_len: usize, context: u32, value: u32, bits: *mut f32,
+    ) -> u32;
+    fn rdoq_token_bits_pair(
+        clusters: u32, map: *const u8, map_len: usize, configs: *const u8, configs_len: usize, symbols: *const f32, symbols_len: usize,
+        ready: *const f32, ready_len: usize, context: u32, value: u32, first: *mut f32, second: *mut f32,
+    ) -> u32;
+}
+
+/// Calls made and differences met, of one leaf.
+struct Tally {
+    name: &'static str,
+    domain: &'static str,
+    calls: u64,
+    differences: u64,
+}
+
+impl Tally {
+    fn new(name: &'static str, domain: &'static str) -> Self {
+        Tally { name, domain, calls: 0, differences: 0 }
+    }
+
+    fn hold<T: PartialEq + std::fmt::Debug>(&mut self, ours: T, theirs: T, asked: impl std::fmt::Debug) {
+        self.calls += 1;
+        if ours != theirs {
+            self.differences += 1;
+            if self.differences <= 3 {
+                println!("DIFFERENCE in {} at {asked:?}: {ours:?} for {theirs:?}", self.name);
+            }
+        }
+    }
+}
+
+/// A code and a number that the call writes.
+fn number(call: impl FnOnce(*mut u32) -> u32) -> (u32, u32) {
+    let mut out = u32::MAX;
+    (call(&mut out), out)
+}
+
+fn float(call: impl FnOnce(*mut f32) -> u32) -> (u32, u32) {
+    let mut out = f32::NAN;
+    let code = call(&mut out);
+    (code, out.to_bits())
+}
+
+fn packing() -> Tally {
+    let mut tally = Tally::new("pack_signed", "all levels");
+    for level in -32768..=32768 {
+        tally.hold(number(|out| unsafe { rdoq_pack_signed(level, out) }), (0, crate::entropy::pack_signed(level)), level);
+    }
+    tally
+}
+
+fn splitting() -> Tally {
+    let mut tally = Tally::new("uint_encode_with_config", "all values under all configurations");
+    for s in 0..=6u8 {
+        for (m, l) in (0..=s).flat_map(|m| (0..=s - m).map(move |l| (m, l))).filter(|&(m, l)| checks::config_passes(s, m, l)) {
+            let config = crate::entropy::token::HybridUintConfig { s: s.into(), m: m.into(), l: l.into() };
+            for value in 0..=131_071 {
+                let mut out = [0u32; 3];
+                let [symbol, extra, bits] = &mut out;
+                let code = unsafe { rdoq_uint_encode_with_config(value, s.into(), m.into(), l.into(), symbol, extra, bits) };
+                let (symbol, extra, bits) = crate::entropy::token::uint_encode_with_config(value, config);
+                tally.hold((code, out), (0, [symbol, extra, bits]), (value, s, m, l));
+            }
+        }
+    }
+    tally
+}
+
+fn block_contexts() -> Tally {
+    let mut tally = Tally::new("fine_block_context and offsets", "all");
+    for (channel, strategy, class) in (0..3).flat_map(|c| (0..27).flat_map(move |s| [(c, s, false), (c, s, true)])) {
+        let theirs = contexts::fine_block_context(channel as usize, strategy as u8, class);
+        tally.hold(number(|out| unsafe { rdoq_fine_block_context(channel, strategy, class, out) }), (0, theirs), (channel, strategy, class));
+    }
+    for block in 0..30 {
+        let theirs = contexts::fine_zero_density_contexts_offset(block);
+        tally.hold(number(|out| unsafe { rdoq_fine_zero_density_contexts_offset(block, out) }), (0, theirs), block);
+    }
+    tally
+}
+
+fn count_contexts() -> Tally {
+    let mut tally = Tally::new("fine_non_zero_context", "counts to 70,000, all block contexts");
+    for (count, block) in (0..=70_000).flat_map(|n| (0..30).map(move |b| (n, b))) {
+        let theirs = contexts::fine_non_zero_context(count, block);
+        tally.hold(number(|out| unsafe { rdoq_fine_non_zero_context(count, block, out) }), (0, theirs), (count, block));
+    }
+    tally
+}
+
+fn coefficient_contexts() -> Tally {
+    let mut tally = Tally::new("zero_density_context", "all to c = 32; above, both ends of each pair of buckets");
+    for log in 0..=10u32 {
+        let c = 1u32 << log;
+        let mut at = |left: u32, k: u32| {
+            if left == 0 || k < c || left + k > 64 * c {
+                return;
+            }
+            for prev in 0..2 {
+                let theirs = contexts::zero_density_context(left as usize, k as usize, c as usize, log as usize, prev as usize) as u32;
+                tally.hold(number(|out| unsafe { rdoq_zero_density_context(left, k, c, prev, out) }), (0, theirs), (left, k, c, prev));
+                if c == 1 {
+                    let theirs = contexts::zero_density_context_8x8(left as usize, k as usize, prev as usize) as u32;
+                    tally.hold(number(|out| unsafe { rdoq_zero_density_context_8x8(left, k, prev, out) }), (0, theirs), (left, k, prev));
+                }
+            }
+        };
+        if c <= 32 {
+            for k in c..64 * c {
+                for left in 1..=64 * c - k {
+                    at(left, k);
+                }
+            }
+        } else {
+            for (count, freq) in (0..64).flat_map(|n| (1..64).map(move |f| (n, f))) {
+                for (left, k) in [(count * c + 1, freq * c), (count * c + c, freq * c), (count * c + 1, freq * c + c - 1), (count * c + c, freq * c + c - 1)] {
+                    at(left, k);
+                }
+            }
+        }
+    }
+    tally
+}
+
+fn levels() -> Tally {
+    let mut tally = Tally::new("DequantBias::level", "all levels, 8 values of one");
+    for one in [1.0 - 0.054_650_073, 1.0 - 0.070_054_5, 1.0 - 0.049_935_103, 0.0, 0.5, 1.0, 1.25, 2.0] {
+        for quant in -32768..=32768 {
+            let theirs = bias::level(one, quant).to_bits();
+            tally.hold(float(|out| unsafe { rdoq_level(one, 0.145, quant, out) }), (0, theirs), (one, quant));
+        }
+    }
+    tally
+}
+
+fn weights() -> Tally {
+    let mut tally = Tally::new("chroma_rdoq_weight, rdoq_distortion_weight, rdoq_window_len", "a million distances; all indices of all lengths at 6 distances; all c");
+    for step in 0..=1_000_000u32 {
+        let distance = 25.0 * (step as f32 / 1_000_000.0);
+        let theirs = chroma_rdoq_weight(distance).to_bits();
+        tally.hold(float(|out| unsafe { rdoq_chroma_rdoq_weight(distance, out) }), (0, theirs), distance);
+    }
+    for distance in [0.0, 2.0, 2.3, 2.71, 3.0, 25.0] {
+        for (index, length) in (0..=1024u32).flat_map(|length| (0..=length).map(move |index| (index, length))) {
+            let theirs = trellis::distortion_weight(index as usize, length as usize, distance).to_bits();
+            tally.hold(float(|out| unsafe { rdoq_distortion_weight(index, length, distance, out) }), (0, theirs), (index, length, distance));
+        }
+    }
+    for c in (0..=10).map(|log| 1usize << log) {
+        let (mut length, mut restoring) = (0, 0);
+        let code = unsafe { rdoq_window_len(c as u32, &mut length, &mut restoring) };
+        // The Rust takes the minimum with 63c in the caller.
+        let (theirs, restore) = trellis::window_len(c);
+        tally.hold((code, length, restoring), (0, theirs.min(63 * c), restore), c);
+    }
+    tally
+}
+
+fn candidates() -> Tally {
+    let mut tally = Tally::new("rdoq_candidates", "all quarters and their neighbours within 40 of 81 levels; 4 million drawn");
+    let mut at = |ideal: f32, current: i32| {
+        for restore in [false, true] {
+            let mut found = ([0i32; 5], 0u32);
+            let code = unsafe { rdoq_candidates(ideal, current, restore, found.0.as_mut_ptr(), 5, &mut found.1) };
+            let (levels, count) = trellis::candidates(ideal, current, restore);
+            tally.hold((code, found), (0, (levels, count as u32)), (ideal, current, restore));
+        }
+    };
+    for current in -40..=40 {
+        for quarter in -160..=160 {
+            let ideal = quarter as f32 / 4.0;
+            for ideal in [ideal.next_down(), ideal, ideal.next_up()] {
+                at(ideal, current);
+            }
+        }
+    }
+    let mut random = Random::of(&[17]);
+    for _ in 0..2_000_000 {
+        let range = random.pick(&[1.0f32, 4.0, 300.0, 32767.0]);
+        let ideal = random.between(-range, range);
+        let current = if random.once_in(2) { ideal.round() as i32 } else { random.between(-range, range) as i32 };
+        at(ideal, current);
+    }
+    tally
+}
+
+fn price_calls() -> Tally {
+    let mut tally = Tally::new("token_bits, token_bits_pair", "all values, each in a drawn context, in 30 books");
+    let mut random = Random::of(&[19]);
+    let mut made = 0;
+    while made < 30 {
+        let book = books::random_book(&mut random);
+        if checks::book_refusal(&book) != 0 {
+            continue;
+        }
+        made += 1;
+        let frozen = prices::lent(&book);
+        for value in 0..=131_071 {
+            let context = random.below(14_849) as u32;
+            let ours = float(|out| unsafe {
+                rdoq_token_bits(
+                    book.clusters, book.map.as_ptr(), book.map.len(), book.configs.as_ptr(), book.configs.len(), book.symbols.as_ptr(),
+                    book.symbols.len(), book.ready.as_ptr(), book.ready.len(), context, value, out,
+                )
+            });
+            tally.hold(ours, (0, prices::token_bits(&frozen, context, value).to_bits()), (made, context, value));
+            let mut both = [f32::NAN; 2];
+            let [first, second] = &mut both;
+            let code = unsafe {
+                rdoq_token_bits_pair(
+                    book.clusters, book.map.as_ptr(), book.map.len(), book.configs.as_ptr(), book.configs.len(), book.symbols.as_ptr(),
+                    book.symbols.len(), book.ready.as_ptr(), book.ready.len(), context, value, first, second,
+                )
+            };
+            let theirs = prices::token_bits_pair(&frozen, context, value).map(f32::to_bits);
+            tally.hold((code, both.map(f32::to_bits)), (0, theirs), (made, context, value));
+        }
+    }
+    tally
+}
+
+fn main() {
+    let parts = [packing, splitting, block_contexts, count_contexts, coefficient_contexts, levels, weights, candidates, price_calls];
+    let mut differences = 0;
+    for part in parts {
+        let tally = part();
+        println!("{:<62} {:>11} calls {:>4} differences   {}", tally.name, tally.calls, tally.differences, tally.domain);
+        differences += tally.differences;
+    }
+    std::process::exit((differences != 0) as i32);
+}
