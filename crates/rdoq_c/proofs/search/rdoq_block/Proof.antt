@@ -9,7 +9,7 @@ use Rattle.rdoq_c.proofs.search.rdoq_block.Tie as tie
 
 returns : tie.Need-returns
 unfolding blockReply
-returns c = (rw (lt-leb _ _ (c .if1 .taken)), λ refused. refl)
+returns c = (rw (lt-leb _ 2 (c .if1 .taken)), λ refused. refl)
 
 named-requires : tie.Need-named-requires
 named-requires c κs = search needs
@@ -37,7 +37,7 @@ unfolding blockReply
 returns-2 c =
     let searched = c .before .before .before .before .before .before .before .before .before .before .rdoq-block .ensures in
     let told = c .tell-answer .ensures in
-    (rw (le-leb _ _ (c .before .before .before .before .before .before .before .before .before .before .before .before .before .before .before .before .if1 .left)) (told-block _ _ (rw (c .before .before .before .before .before .before .before .before .before .before .before .before .before .before .before .named .ensures) at (searched .0)) told), told-keeps _ _ _ (told .0) (searched .1))
+    (rw (le-leb _ 2 (c .before .before .before .before .before .before .before .before .before .before .before .before .before .before .before .before .if1 .left)) (told-block _ _ (rw (c .before .before .before .before .before .before .before .before .before .before .before .before .before .before .before .named .ensures) at (searched .0)) told), told-keeps _ _ _ (told .0) (searched .1))
 
 pub rdoq-block-spec : {M : Type 1} → statement M
 rdoq-block-spec =
