@@ -11,7 +11,7 @@ use mir.Val.{boolByte}
 use lib.Dec.{T, lit<, lit≤, ltb, leb, ltb→lt, leb→le}
 use lib.ListN.{length, getD}
 use Rattle.ac_context.specs.Contexts.{strategyOrder, blockContextMap, channelRow, coeffFreqContext, coeffNumNonzeroContext, blockContext, zeroDensityContext, Coefficient, Covered}
-use Rattle.laws.proofs.Table.{at, every}
+use Rattle.laws.proofs.Table.{at, every, follows, between}
 
 below : ℕ → ℕ → ℕ → Bool
 below n i x = ltb x n
@@ -39,6 +39,19 @@ freq-below i h = ltb→lt _ _ (at (below 31) coeffFreqContext tt i h)
 pub num-below : (i : ℕ) → i < 64 → getD coeffNumNonzeroContext i 0 < 207
 unfolding below coeffNumNonzeroContext
 num-below i h = ltb→lt _ _ (at (below 207) coeffNumNonzeroContext tt i h)
+
+-- both tables by rule, on the places from lo up to hi
+pub freq-by : (lo hi : ℕ) (f : ℕ → ℕ) → T (every (follows lo hi f) 0 coeffFreqContext) → (k : ℕ) → lo ≤ k → k < hi → k < 64 → (f k ≡ getD coeffFreqContext k 0) × (f k < 31)
+unfolding coeffFreqContext
+freq-by lo hi f t k low high h =
+    let e = between lo hi f coeffFreqContext t k low high h in
+    (sym e, subst (λ (x : ℕ). x < 31) e (freq-below k h))
+
+pub num-by : (lo hi : ℕ) (f : ℕ → ℕ) → T (every (follows lo hi f) 0 coeffNumNonzeroContext) → (k : ℕ) → lo ≤ k → k < hi → k < 64 → (f k ≡ getD coeffNumNonzeroContext k 0) × (f k < 207)
+unfolding coeffNumNonzeroContext
+num-by lo hi f t k low high h =
+    let e = between lo hi f coeffNumNonzeroContext t k low high h in
+    (sym e, subst (λ (x : ℕ). x < 207) e (num-below k h))
 
 -- what a cast gives of a bool
 pub bit-is : (b : Bool) → boolByte b ≡ cond b 1 0

@@ -4,140 +4,6 @@ ghost use Prim.Native.Nat.{_<_};
 ghost use lib.ListN.{getD};
 ghost use Rattle.ac_context.specs.Contexts.{strategyOrder, blockContextMap, channelRow, coeffFreqContext, coeffNumNonzeroContext};
 
-const K_COEFF_FREQ_CONTEXT: [u16; 64] = [
-    0,
-    0,
-    1,
-    2,
-    3,
-    4,
-    5,
-    6,
-    7,
-    8,
-    9,
-    10,
-    11,
-    12,
-    13,
-    14,
-    15,
-    15,
-    16,
-    16,
-    17,
-    17,
-    18,
-    18,
-    19,
-    19,
-    20,
-    20,
-    21,
-    21,
-    22,
-    22,
-    23,
-    23,
-    23,
-    23,
-    24,
-    24,
-    24,
-    24,
-    25,
-    25,
-    25,
-    25,
-    26,
-    26,
-    26,
-    26,
-    27,
-    27,
-    27,
-    27,
-    28,
-    28,
-    28,
-    28,
-    29,
-    29,
-    29,
-    29,
-    30,
-    30,
-    30,
-    30,
-];
-
-const K_COEFF_NUM_NONZERO_CONTEXT: [u16; 64] = [
-    0,
-    0,
-    31,
-    62,
-    62,
-    93,
-    93,
-    93,
-    93,
-    123,
-    123,
-    123,
-    123,
-    152,
-    152,
-    152,
-    152,
-    152,
-    152,
-    152,
-    152,
-    180,
-    180,
-    180,
-    180,
-    180,
-    180,
-    180,
-    180,
-    180,
-    180,
-    180,
-    180,
-    206,
-    206,
-    206,
-    206,
-    206,
-    206,
-    206,
-    206,
-    206,
-    206,
-    206,
-    206,
-    206,
-    206,
-    206,
-    206,
-    206,
-    206,
-    206,
-    206,
-    206,
-    206,
-    206,
-    206,
-    206,
-    206,
-    206,
-    206,
-    206,
-    206,
-    206,
-];
-
 // Rows Y, X and B.
 const K_COMPACT_BLOCK_CONTEXT_MAP: [u8; 39] = [
     0,
@@ -219,12 +85,6 @@ fn wide(x: u8) -> usize
     x as usize
 }
 
-fn wide16(x: u16) -> usize
-    ensures { λ r. ⌜ r ≡ x ⌝ }
-{
-    x as usize
-}
-
 pub(crate) fn strategy_order(code: usize) -> usize
     requires { ⌜ code < 27 ⌝ }
     ensures { λ r. ⌜ (r ≡ getD strategyOrder code 0) × (r < 13) ⌝ }
@@ -246,16 +106,46 @@ pub(crate) fn compact_block_context(at: usize) -> usize
     wide(K_COMPACT_BLOCK_CONTEXT_MAP[at])
 }
 
+// The two tables below are read in the searches' inner loops. A constant array is built anew at each use, so their entries are worked
+// out: one context a position up to 16, then one for two, then one for four.
 pub(crate) fn coeff_freq_context(at: usize) -> usize
     requires { ⌜ at < 64 ⌝ }
     ensures { λ r. ⌜ (r ≡ getD coeffFreqContext at 0) × (r < 31) ⌝ }
 {
-    wide16(K_COEFF_FREQ_CONTEXT[at])
+    if at < 16 {
+        if at == 0 {
+            return 0;
+        }
+        return at - 1;
+    }
+    if at < 32 {
+        return 7 + at / 2;
+    }
+    15 + at / 4
 }
 
+// The entries stay the same from 3, 5, 9, 13, 21 and 33 on.
 pub(crate) fn coeff_num_nonzero_context(at: usize) -> usize
     requires { ⌜ at < 64 ⌝ }
     ensures { λ r. ⌜ (r ≡ getD coeffNumNonzeroContext at 0) × (r < 207) ⌝ }
 {
-    wide16(K_COEFF_NUM_NONZERO_CONTEXT[at])
+    if at < 9 {
+        if at < 3 {
+            return 31 * (at / 2);
+        }
+        if at < 5 {
+            return 62;
+        }
+        return 93;
+    }
+    if at < 21 {
+        if at < 13 {
+            return 123;
+        }
+        return 152;
+    }
+    if at < 33 {
+        return 180;
+    }
+    206
 }

@@ -27,9 +27,9 @@ use Rattle.scan.specs.Scan.{Perm, levelAt, put}
 use Rattle.scan.proofs.Through.{put-more, put-after, put-length}
 use Rattle.steps.proofs.Plans.{planned-lists}
 use Rattle.steps.proofs.Zero.{level-back}
-use Rattle.steps.specs.Plan.{Planned, Lists, Readable, Spotted, Usable, listed}
+use Rattle.steps.specs.Plan.{Planned, Lists, Readable, Offered, Usable, listed}
 use Rattle.steps.specs.declared.reading.Plan.{Plan}
-use Rattle.steps.specs.declared.reading.Spot.{Spot}
+use Rattle.steps.specs.declared.reading.Offer.{Offer}
 use Rattle.weights.specs.Window.{windowOf}
 use Rattle.beam.specs.Beam.{windowLength}
 use Rattle.beam.specs.Held.{tail, position, positions, paths, pathAt, levelsOf, Walkable}
@@ -141,37 +141,37 @@ module _ {scan : List ℕ} {source inverse : List Float} {levels₀ : List ℤ} 
     way-levels = from-here (levelsOf (w .book) (w .block) first count) i (W .rest ∙ named .levels-are)
 
     -- ---- one turn of the loop
-    module _ {spot : Spot} (S : (b' : Block) → Lists b' scan source inverse levels → Planned b' plan → Spotted b' (plan .log2) i spot) (U : Usable (spot .candidates)) {n : ℕ} (x : n ≡ getD choices (6 * i + (2 * path + prev)) 0) where
-      spotted : Spotted (withLevels (w .block) levels) (plan .log2) i spot
-      spotted =
+    module _ {offer : Offer} (S : (b' : Block) → Lists b' scan source inverse levels → Planned b' plan → Offered b' i offer) (U : Usable (offer .candidates)) {n : ℕ} (x : n ≡ getD choices (6 * i + (2 * path + prev)) 0) where
+      offered : Offered (withLevels (w .block) levels) i offer
+      offered =
           S (withLevels (w .block) levels)
           (record { scan-is = w .lists .scan-is; source-is = w .lists .source-is; inverse-is = w .lists .inverse-is; levels-is = refl })
           (planned-lists (w .block) (w .checked .planned) (w .block .scan) (w .block .source) (w .block .inverse) levels)
 
-      spot-listed : listed (spot .candidates) ≡ candidatesAt (windowOf (covered (w .block))) (w .block) i
+      offer-listed : listed (offer .candidates) ≡ candidatesAt (windowOf (covered (w .block))) (w .block) i
       unfolding candidatesAt inputAt covered ideal
-      spot-listed =
-          spotted .listed-is
+      offer-listed =
+          offered .listed-is
           ∙ ap (λ (z : ℤ). candidatesOf (ideal (w .block) i) z (ltb i (windowOf (covered (w .block)) .restoring)))
           (ap (λ (s : List ℕ). levelAt s levels (covered (w .block) + i)) (sym (w .lists .scan-is)) ∙ level-kept)
 
-      pub index-below : n % 16 < spot .candidates .count
+      pub index-below : n % 16 < offer .candidates .count
       unfolding positionAt
       index-below =
-          let k : n % 16 < length (listed (spot .candidates)) = rw (x, spot-listed) (named .level) in
-          omega (arith, length-take (spot .candidates .count) (spot .candidates .levels))
+          let k : n % 16 < length (listed (offer .candidates)) = rw (x, offer-listed) (named .level) in
+          omega (arith, length-take (offer .candidates .count) (offer .candidates .levels))
 
-      level-named : getD (spot .candidates .levels) (n % 16) (pos 0) ≡ way .level
+      level-named : getD (offer .candidates .levels) (n % 16) (pos 0) ≡ way .level
       unfolding way wayOf positionAt
       level-named =
-          sym (getD-take (spot .candidates .count) (spot .candidates .levels) (n % 16) (pos 0) index-below)
-          ∙ ap₂ (λ (c : List ℤ) (m : ℕ). getD c (m % 16) (pos 0)) spot-listed x
+          sym (getD-take (offer .candidates .count) (offer .candidates .levels) (n % 16) (pos 0) index-below)
+          ∙ ap₂ (λ (c : List ℤ) (m : ℕ). getD c (m % 16) (pos 0)) offer-listed x
 
-      level-handed : toZ w32 (ofZ w32 (getD (spot .candidates .levels) (n % 16) (pos 0))) ≡ way .level
+      level-handed : toZ w32 (ofZ w32 (getD (offer .candidates .levels) (n % 16) (pos 0))) ≡ way .level
       level-handed = level-back _ (U .levels (n % 16) index-below) ∙ level-named
 
-      pub walked-on : {m : ℕ} {levels' : List ℤ} {k : ℕ} → m ≡ nz (toZ w32 (ofZ w32 (getD (spot .candidates .levels) (n % 16) (pos 0)))) → k ≡ plan .covered + i
-          → levels' ≡ set levels (getD scan k 0) (toZ w32 (ofZ w32 (getD (spot .candidates .levels) (n % 16) (pos 0)))) → WalkedTo w (i + 1) levels' (n / 16) m
+      pub walked-on : {m : ℕ} {levels' : List ℤ} {k : ℕ} → m ≡ nz (toZ w32 (ofZ w32 (getD (offer .candidates .levels) (n % 16) (pos 0)))) → k ≡ plan .covered + i
+          → levels' ≡ set levels (getD scan k 0) (toZ w32 (ofZ w32 (getD (offer .candidates .levels) (n % 16) (pos 0)))) → WalkedTo w (i + 1) levels' (n / 16) m
       unfolding way wayOf
       walked-on {m} {levels'} {k} e f g =
           let place : k ≡ covered (w .block) + i = f ∙ ap (λ (c : ℕ). c + i) (w .checked .planned .covered-is) in

@@ -38,8 +38,8 @@ pub(crate) fn write_levels(
     let mut prev = tokens::first_prev(covered, count);
     let mut path = first;
     for i in 0..window.length {
-        let spot = plan.spot(scan, source, inv_qm, levels, i);
-        let candidates = spot.candidates;
+        let offer = plan.offer(scan, source, inv_qm, levels, i);
+        let candidates = offer.candidates;
         let choice = choice_at(choices, i, path, prev);
         let level = candidates.levels[choice % 16];
         steps::write_level(scan, levels, covered + i, level);

@@ -22,10 +22,10 @@ use Rattle.weights.specs.Settings.{weightAt, scaledWeight}
 use Rattle.weights.specs.Window.{windowOf}
 use Rattle.weights.specs.declared.Window.{Window}
 use Rattle.steps.specs.Place.{placeOf, nonzeroRate}
-use Rattle.steps.specs.Plan.{Planned, Lists, Spotted, Usable, listed}
+use Rattle.steps.specs.Plan.{Planned, Lists, Offered, Usable, listed}
 use Rattle.steps.specs.declared.Place.{Place}
 use Rattle.steps.specs.declared.reading.Plan.{Plan}
-use Rattle.steps.specs.declared.reading.Spot.{Spot}
+use Rattle.steps.specs.declared.reading.Offer.{Offer}
 
 -- the candidates as the leaf hands them over
 pub filled-usable : (x : Float) (q : ℤ) (restore : Bool) (c : Candidates) → T (isIdeal x) → T (isCurrent q) → c ≡ filled (filler q restore) (candidatesOf x q restore) → Usable c
@@ -48,24 +48,28 @@ pub filled-listed : (x : Float) (q : ℤ) (restore : Bool) (c : Candidates) → 
 unfolding filled
 filled-listed x q restore c e = ap listed e ∙ whole (candidatesOf x q restore) _
 
--- what the code works out at a window position, from a plan and the lists
-pub spotted : (b : Block) (p : Plan) (i : ℕ) (scan : List ℕ) (source inverse : List Float) (levels : List ℤ) (restoring : Bool) (x weight rate : Float) (q : ℤ) (c : Candidates)
+-- what the code reads at a window position, by a plan and the lists
+pub offered : (b : Block) (p : Plan) (i : ℕ) (scan : List ℕ) (source inverse : List Float) (levels : List ℤ) (restoring : Bool) (x : Float) (q : ℤ) (c : Candidates)
     → Lists b scan source inverse levels → Planned b p → restoring ≡ ltb i (p .window .restoring)
-    → x ≡ idealAt scan source inverse (p .scale) (p .covered + i) → q ≡ levelAt scan levels (p .covered + i) → weight ≡ scaledWeight (p .«channel_scale») i (p .base) (p .distance)
-    → rate ≡ cond (eqb (nz q) 0) (p .«restore_rate») (p .lambda) → c ≡ filled (filler q restoring) (candidatesOf x q restoring)
-    → Spotted b (p .log2) i
-    (record {
-      place = record { k = p .covered + i; covered = p .covered; log2 = p .log2; offset = p .offset; weight = weight; ideal = x; bias = p .bias; lambda = p .lambda; «nonzero_rate» = rate };
-      candidates = c;
-      level = q;
-    })
-unfolding placeOf nonzeroRate ideal inputAt candidatesAt weightAt
-spotted b p i scan source inverse levels restoring x weight rate q c l w r ex eq ew er ec =
+    → x ≡ idealAt scan source inverse (p .scale) (p .covered + i) → q ≡ levelAt scan levels (p .covered + i) → c ≡ filled (filler q restoring) (candidatesOf x q restoring)
+    → Offered b i (record { ideal = x; candidates = c; level = q })
+unfolding ideal inputAt candidatesAt
+offered b p i scan source inverse levels restoring x q c l w r ex eq ec =
     let at : p .covered + i ≡ covered b + i = ap (λ (n : ℕ). n + i) (w .covered-is) in
     let level : q ≡ levelAt (b .scan) (b .levels) (covered b + i) = cc in
     let value : x ≡ idealAt (b .scan) (b .source) (b .inverse) (b .scale) (covered b + i) = cc in
     record {
-      place-is = cc;
+      ideal-is = value;
       listed-is = filled-listed x q restoring c ec ∙ cc (ap (λ (v : Window). ltb i (v .restoring)) (w .window-is));
       level-is = level;
     }
+
+-- what the code works out there
+pub placed : (b : Block) (p : Plan) (i : ℕ) (x weight rate : Float) (q : ℤ)
+    → Planned b p → x ≡ ideal b i → q ≡ inputAt b (covered b + i) → weight ≡ scaledWeight (p .«channel_scale») i (p .base) (p .distance)
+    → rate ≡ cond (eqb (nz q) 0) (p .«restore_rate») (p .lambda)
+    → record { k = p .covered + i; covered = p .covered; log2 = p .log2; offset = p .offset; weight = weight; ideal = x; bias = p .bias; lambda = p .lambda; «nonzero_rate» = rate } ≡ placeOf b (p .log2) i
+unfolding placeOf nonzeroRate weightAt
+placed b p i x weight rate q w ex eq ew er =
+    let at : p .covered + i ≡ covered b + i = ap (λ (n : ℕ). n + i) (w .covered-is) in
+    cc

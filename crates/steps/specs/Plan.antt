@@ -8,7 +8,7 @@ use lib.Dec.{T}
 use lib.Ieee.{Float, nan}
 use Rattle.ac_context.specs.Contexts.{Covered, fineNonZeroContext, fineZeroDensityContextsOffset}
 use Rattle.bias.specs.Level.{isLevel}
-use Rattle.block.specs.Block.{Block, covered, contextOf, inputAt, idealAt, candidatesAt}
+use Rattle.block.specs.Block.{Block, covered, contextOf, inputAt, ideal, idealAt, candidatesAt}
 use Rattle.candidates.specs.Candidates.{isCurrent}
 use Rattle.candidates.specs.declared.Candidates.{Candidates}
 use Rattle.candidates.specs.Nearest.{isIdeal}
@@ -16,6 +16,7 @@ use Rattle.scan.specs.Scan.{levelAt}
 use Rattle.weights.specs.Settings.{channelScale, restoreRate}
 use Rattle.weights.specs.Window.{windowOf, baseLen}
 use Rattle.steps.specs.Place.{placeOf}
+use Rattle.steps.specs.declared.reading.Offer.{Offer}
 use Rattle.steps.specs.declared.reading.Plan.{Plan}
 use Rattle.steps.specs.declared.reading.Spot.{Spot}
 
@@ -69,6 +70,12 @@ pub record Usable (c : Candidates) : Type 0 where
 -- costs holds what g gives for each level
 pub record Each (g : ℤ → Float) (levels : List ℤ) (costs : List Float) : Type 0 where
   pub at : (j : ℕ) → j < length levels → getD costs j nan ≡ g (getD levels j (pos 0))
+
+-- what window position i of a block offers
+pub record Offered (b : Block) (i : ℕ) (o : Offer) : Type 0 where
+  pub ideal-is : o .ideal ≡ ideal b i
+  pub listed-is : listed (o .candidates) ≡ candidatesAt (windowOf (covered b)) b i
+  pub level-is : o .level ≡ inputAt b (covered b + i)
 
 -- what stands at window position i of a block
 pub record Spotted (b : Block) (log2 i : ℕ) (s : Spot) : Type 0 where

@@ -97,11 +97,8 @@ impl Place {
         if remaining == 0 {
             return 0;
         }
-        let covered = self.covered;
-        if covered == 1 {
-            return self.offset + ac_context::zero_density_context_8x8(remaining, self.k, 0);
-        }
-        self.offset + ac_context::zero_density_context(remaining, self.k, covered, self.log2, 0)
+        self.offset
+            + ac_context::zero_density_context(remaining, self.k, self.covered, self.log2, 0)
     }
 
     // The local costs of a level for `prev` 0 and 1, its distortion at hand.

@@ -7,14 +7,15 @@ use weights::Settings;
 use weights::Window;
 ghost use mathlib.Core.Path.{_≡_};
 ghost use mathlib.Core.Bool.{true, cond};
-ghost use lib.Dec.{eqb};
+ghost use lib.Dec.{T, eqb};
 ghost use Rattle.least_cost.specs.Position.{nz};
 ghost use mathlib.Core.List.{[]};
 ghost use Prim.Native.Nat.{_+_, _*_, _<_, _≤_};
 ghost use Rattle.ac_context.specs.Contexts.{isPowerBelow};
-ghost use Rattle.block.specs.Block.{Block, blockOf};
-ghost use Rattle.steps.specs.Place.{distortionAt};
-ghost use Rattle.steps.specs.Plan.{Planned, Coded, Lists, Readable, Spotted, listed, Usable, Each};
+ghost use Rattle.block.specs.Block.{Block, blockOf, inputAt, ideal as idealOf, covered as coveredBy};
+ghost use Rattle.candidates.specs.Candidates.{isCurrent};
+ghost use Rattle.steps.specs.Place.{distortionAt, placeOf};
+ghost use Rattle.steps.specs.Plan.{Planned, Coded, Lists, Readable, Offered, Spotted, listed, Usable, Each};
 
 // What a block's shape, settings, bias and scale give.
 pub struct Plan {
@@ -30,6 +31,13 @@ pub struct Plan {
     pub lambda: f32,
     pub restore_rate: f32,
     pub scale: f32,
+}
+
+// What a window position offers: the ideal, the candidates, and the level that is there.
+pub struct Offer {
+    pub ideal: f32,
+    pub candidates: Candidates,
+    pub level: i32,
 }
 
 // A window position: what prices a level there, the candidates, and the level that is there.
@@ -68,6 +76,50 @@ pub fn plan_of(shape: Shape, settings: Settings, bias: DequantBias, scale: f32) 
 }
 
 impl Plan {
+    // What window position i offers; the walk back asks for no more.
+    pub fn offer(
+        self,
+        scan: &[u32],
+        source: &[f32],
+        inv_qm: &[f32],
+        levels: &[i32],
+        i: usize,
+    ) -> Offer
+        requires { ⌜ Readable (now scan) (now source) (now «inv_qm») (now levels) (self .scale) (self .covered + i) ⌝ }
+        requires { ⌜ self .covered + i < 65536 ⌝ }
+        ensures { λ r. ⌜ ((b : Block) → Lists b (now (scan .entry)) (now (source .entry)) (now («inv_qm» .entry)) (now (levels .entry)) → Planned b self → Offered b i r) ⌝ }
+        ensures { λ r. ⌜ (Usable (r .candidates)) × T (isCurrent (r .level)) ⌝ }
+    {
+        let k = self.covered + i;
+        let ideal = crate::ideal_at(scan, source, inv_qm, self.scale, k);
+        let level = crate::level_at(scan, levels, k);
+        let window = self.window;
+        Offer {
+            ideal,
+            candidates: candidates::rdoq_candidates(ideal, level, i < window.restoring),
+            level,
+        }
+    }
+
+    // What prices a level at window position i.
+    pub fn place(self, i: usize, ideal: f32, level: i32) -> Place
+        requires { ⌜ (self .base ≤ 1024) × ((self .covered + i < 65536) × T (isCurrent level)) ⌝ }
+        ensures { λ r. ⌜ ((b : Block) → Planned b self → ideal ≡ idealOf b i → level ≡ inputAt b (coveredBy b + i) → r ≡ placeOf b (self .log2) i) ⌝ }
+    {
+        let bias = self.bias;
+        Place {
+            k: self.covered + i,
+            covered: self.covered,
+            log2: self.log2,
+            offset: self.offset,
+            weight: weights::position_weight(self.channel_scale, i, self.base, self.distance),
+            ideal,
+            bias,
+            lambda: self.lambda,
+            nonzero_rate: self.nonzero_rate(level),
+        }
+    }
+
     pub fn spot(
         self,
         scan: &[u32],
@@ -81,25 +133,12 @@ impl Plan {
         ensures { λ r. ⌜ ((b : Block) → Lists b (now (scan .entry)) (now (source .entry)) (now («inv_qm» .entry)) (now (levels .entry)) → Planned b self → Spotted b (self .log2) i r) ⌝ }
         ensures { λ r. ⌜ Usable (r .candidates) ⌝ }
     {
-        let k = self.covered + i;
-        let ideal = crate::ideal_at(scan, source, inv_qm, self.scale, k);
-        let level = crate::level_at(scan, levels, k);
-        let window = self.window;
-        let bias = self.bias;
+        let offer = self.offer(scan, source, inv_qm, levels, i);
+        let candidates = offer.candidates;
         Spot {
-            place: Place {
-                k,
-                covered: self.covered,
-                log2: self.log2,
-                offset: self.offset,
-                weight: weights::position_weight(self.channel_scale, i, self.base, self.distance),
-                ideal,
-                bias,
-                lambda: self.lambda,
-                nonzero_rate: self.nonzero_rate(level),
-            },
-            candidates: candidates::rdoq_candidates(ideal, level, i < window.restoring),
-            level,
+            place: self.place(i, offer.ideal, offer.level),
+            candidates,
+            level: offer.level,
         }
     }
 

@@ -30,9 +30,9 @@ use Rattle.scan.specs.Scan.{Perm, levelAt, put}
 use Rattle.scan.proofs.Through.{put-more, put-after, put-length}
 use Rattle.steps.proofs.Plans.{planned-lists}
 use Rattle.steps.proofs.Zero.{handed-back, level-back}
-use Rattle.steps.specs.Plan.{Planned, Lists, Readable, Spotted, Usable, listed}
+use Rattle.steps.specs.Plan.{Planned, Lists, Readable, Offered, Usable, listed}
 use Rattle.steps.specs.declared.reading.Plan.{Plan}
-use Rattle.steps.specs.declared.reading.Spot.{Spot}
+use Rattle.steps.specs.declared.reading.Offer.{Offer}
 use Rattle.weights.specs.Window.{windowOf}
 use Rattle.trellis_table.specs.Rows.{windowLength, tail, position, positions, leastCount, Checked, ChosenFrom}
 use Rattle.trellis.specs.Walk.{Walkable, walked}
@@ -159,32 +159,32 @@ module _ {scan : List ℕ} {source inverse : List Float} {levels₀ : List ℤ} 
     lists-now : Lists now-block scan source inverse levels
     lists-now = record { scan-is = w .lists .scan-is; source-is = w .lists .source-is; inverse-is = w .lists .inverse-is; levels-is = refl }
 
-    module _ {spot : Spot} (S : (b' : Block) → Lists b' scan source inverse levels → Planned b' plan → Spotted b' (plan .log2) i spot) where
-      spotted : Spotted now-block (plan .log2) i spot
-      spotted = S now-block lists-now planned-now
+    module _ {offer : Offer} (S : (b' : Block) → Lists b' scan source inverse levels → Planned b' plan → Offered b' i offer) where
+      offered : Offered now-block i offer
+      offered = S now-block lists-now planned-now
 
-      pub spot-level : spot .level ≡ inputAt (w .block) (covered (w .block) + i)
+      pub offer-level : offer .level ≡ inputAt (w .block) (covered (w .block) + i)
       unfolding inputAt covered
-      spot-level = spotted .level-is ∙ ap (λ (s : List ℕ). levelAt s levels (covered (w .block) + i)) (sym (w .lists .scan-is)) ∙ level-kept
+      offer-level = offered .level-is ∙ ap (λ (s : List ℕ). levelAt s levels (covered (w .block) + i)) (sym (w .lists .scan-is)) ∙ level-kept
 
-      pub spot-listed : listed (spot .candidates) ≡ candidatesAt (windowOf (covered (w .block))) (w .block) i
+      pub offer-listed : listed (offer .candidates) ≡ candidatesAt (windowOf (covered (w .block))) (w .block) i
       unfolding candidatesAt inputAt covered ideal
-      spot-listed =
-          spotted .listed-is
-          ∙ ap (λ (z : ℤ). candidatesOf (ideal (w .block) i) z (ltb i (windowOf (covered (w .block)) .restoring))) (sym (spotted .level-is) ∙ spot-level)
+      offer-listed =
+          offered .listed-is
+          ∙ ap (λ (z : ℤ). candidatesOf (ideal (w .block) i) z (ltb i (windowOf (covered (w .block)) .restoring))) (sym (offered .level-is) ∙ offer-level)
 
       -- ---- the nonzero input levels that follow
-      counted : inputRemaining (w .block) (covered (w .block) + i) ≡ nz (spot .level) + inputRemaining (w .block) (covered (w .block) + suc i)
+      counted : inputRemaining (w .block) (covered (w .block) + i) ≡ nz (offer .level) + inputRemaining (w .block) (covered (w .block) + suc i)
       counted =
           let there = remaining-step (w .checked) (covered (w .block) + i) (inner (covered (w .block)) (windowLength (w .block)) i h (P .window .fits)) in
           let same : suc (covered (w .block) + i) ≡ covered (w .block) + suc i = omega arith in
-          let level = ap nz spot-level in
+          let level = ap nz offer-level in
           omega (arith, rw same at there)
 
-      pub after-some : nz (spot .level) ≤ after
+      pub after-some : nz (offer .level) ≤ after
       after-some = omega (arith, counted, W .after-is)
 
-      pub after-now : {after' : ℕ} → after' ≡ after - nz (spot .level) → after' ≡ inputRemaining (w .block) (covered (w .block) + suc i)
+      pub after-now : {after' : ℕ} → after' ≡ after - nz (offer .level) → after' ≡ inputRemaining (w .block) (covered (w .block) + suc i)
       after-now e = omega (arith, counted, W .after-is)
 
     -- ---- where the choice stands
@@ -236,47 +236,47 @@ module _ {scan : List ℕ} {source inverse : List Float} {levels₀ : List ℤ} 
           })
 
     -- ---- one turn of the loop
-    module _ {spot : Spot} (S : (b' : Block) → Lists b' scan source inverse levels → Planned b' plan → Spotted b' (plan .log2) i spot) (U : Usable (spot .candidates))
-        {n low idx : ℕ} (N : n ≡ nz (toZ w32 (ofZ w32 (spot .level)))) (l : low ≡ leastCount past (after - n)) (x : idx ≡ getD choices (28 * i + (2 * (left - low) + prev)) 0) where
-      read-level : n ≡ nz (spot .level)
-      read-level = N ∙ ap nz (handed-back _ _ (spot-level S) (level-current (w .checked) i h) ∙ sym (spot-level S))
+    module _ {offer : Offer} (S : (b' : Block) → Lists b' scan source inverse levels → Planned b' plan → Offered b' i offer) (U : Usable (offer .candidates))
+        {n low idx : ℕ} (N : n ≡ nz (toZ w32 (ofZ w32 (offer .level)))) (l : low ≡ leastCount past (after - n)) (x : idx ≡ getD choices (28 * i + (2 * (left - low) + prev)) 0) where
+      read-level : n ≡ nz (offer .level)
+      read-level = N ∙ ap nz (handed-back _ _ (offer-level S) (level-current (w .checked) i h) ∙ sym (offer-level S))
 
       follow : after - n ≡ inputRemaining (w .block) (covered (w .block) + suc i)
       follow = after-now S (ap (λ (m : ℕ). after - m) read-level)
 
-      pub index-below : idx < spot .candidates .count
+      pub index-below : idx < offer .candidates .count
       index-below =
-          let k : getD choices (28 * i + (2 * (left - low) + prev)) 0 < length (listed (spot .candidates)) = rw (spot-listed S) (named-below follow l) in
-          omega (arith, length-take (spot .candidates .count) (spot .candidates .levels))
+          let k : getD choices (28 * i + (2 * (left - low) + prev)) 0 < length (listed (offer .candidates)) = rw (offer-listed S) (named-below follow l) in
+          omega (arith, length-take (offer .candidates .count) (offer .candidates .levels))
 
-      pub level-named : getD (spot .candidates .levels) idx (pos 0) ≡ pick (tail (w .book) (w .block)) (position (w .book) (w .block) i) (positions (w .book) (w .block) (suc i)) left prev
+      pub level-named : getD (offer .candidates .levels) idx (pos 0) ≡ pick (tail (w .book) (w .block)) (position (w .book) (w .block) i) (positions (w .book) (w .block) (suc i)) left prev
       level-named =
-          sym (getD-take (spot .candidates .count) (spot .candidates .levels) idx (pos 0) index-below)
-          ∙ ap₂ (λ (c : List ℤ) (m : ℕ). getD c m (pos 0)) (spot-listed S) x
+          sym (getD-take (offer .candidates .count) (offer .candidates .levels) idx (pos 0) index-below)
+          ∙ ap₂ (λ (c : List ℤ) (m : ℕ). getD c m (pos 0)) (offer-listed S) x
           ∙ named follow l
 
-      level-handed : toZ w32 (ofZ w32 (getD (spot .candidates .levels) idx (pos 0))) ≡ getD (spot .candidates .levels) idx (pos 0)
+      level-handed : toZ w32 (ofZ w32 (getD (offer .candidates .levels) idx (pos 0))) ≡ getD (offer .candidates .levels) idx (pos 0)
       level-handed = level-back _ (U .levels idx index-below)
 
-      pub level-left : {m : ℕ} → m ≡ nz (toZ w32 (ofZ w32 (getD (spot .candidates .levels) idx (pos 0)))) → m ≤ left
+      pub level-left : {m : ℕ} → m ≡ nz (toZ w32 (ofZ w32 (getD (offer .candidates .levels) idx (pos 0)))) → m ≤ left
       level-left e = rw e (level-among (level-handed ∙ level-named))
 
-      pub walked-on : {m : ℕ} {levels' : List ℤ} {k : ℕ} → m ≡ nz (toZ w32 (ofZ w32 (getD (spot .candidates .levels) idx (pos 0)))) → k ≡ plan .covered + i
-          → levels' ≡ set levels (getD scan k 0) (toZ w32 (ofZ w32 (getD (spot .candidates .levels) idx (pos 0)))) → WalkedTo w (i + 1) levels' (left - m) m (after - n)
+      pub walked-on : {m : ℕ} {levels' : List ℤ} {k : ℕ} → m ≡ nz (toZ w32 (ofZ w32 (getD (offer .candidates .levels) idx (pos 0)))) → k ≡ plan .covered + i
+          → levels' ≡ set levels (getD scan k 0) (toZ w32 (ofZ w32 (getD (offer .candidates .levels) idx (pos 0)))) → WalkedTo w (i + 1) levels' (left - m) m (after - n)
       walked-on {m} {levels'} {k} e f g =
-          let q = toZ w32 (ofZ w32 (getD (spot .candidates .levels) idx (pos 0))) in
+          let q = toZ w32 (ofZ w32 (getD (offer .candidates .levels) idx (pos 0))) in
           let place : k ≡ covered (w .block) + i = f ∙ ap (λ (c : ℕ). c + i) (w .checked .planned .covered-is) in
           let written : levels' ≡ set levels (getD scan (covered (w .block) + i) 0) q = g ∙ ap (λ (j : ℕ). set levels (getD scan j 0) q) place in
           subst⁻¹ (λ (y : List ℤ). WalkedTo w (i + 1) y (left - m) m (after - n)) written
           (subst⁻¹ (λ (z : ℕ). WalkedTo w (i + 1) (set levels (getD scan (covered (w .block) + i) 0) q) (left - z) z (after - n)) e
           (walk-on (level-handed ∙ level-named) follow))
 
-    pub input-some : {spot : Spot} → ((b' : Block) → Lists b' scan source inverse levels → Planned b' plan → Spotted b' (plan .log2) i spot) → {n : ℕ} → n ≡ nz (toZ w32 (ofZ w32 (spot .level))) → n ≤ after
-    input-some S N = rw (N ∙ ap nz (handed-back _ _ (spot-level S) (level-current (w .checked) i h) ∙ sym (spot-level S))) (after-some S)
+    pub input-some : {offer : Offer} → ((b' : Block) → Lists b' scan source inverse levels → Planned b' plan → Offered b' i offer) → {n : ℕ} → n ≡ nz (toZ w32 (ofZ w32 (offer .level))) → n ≤ after
+    input-some S N = rw (N ∙ ap nz (handed-back _ _ (offer-level S) (level-current (w .checked) i h) ∙ sym (offer-level S))) (after-some S)
 
-    pub state-here : {spot : Spot} → ((b' : Block) → Lists b' scan source inverse levels → Planned b' plan → Spotted b' (plan .log2) i spot) → {n low : ℕ} → n ≡ nz (toZ w32 (ofZ w32 (spot .level)))
+    pub state-here : {offer : Offer} → ((b' : Block) → Lists b' scan source inverse levels → Planned b' plan → Offered b' i offer) → {n low : ℕ} → n ≡ nz (toZ w32 (ofZ w32 (offer .level)))
         → low ≡ leastCount past (after - n) → (low ≤ left) × (left ≤ low + 13)
-    state-here S N l = state-in-row (after-now S (ap (λ (m : ℕ). after - m) (N ∙ ap nz (handed-back _ _ (spot-level S) (level-current (w .checked) i h) ∙ sym (spot-level S))))) l
+    state-here S N l = state-in-row (after-now S (ap (λ (m : ℕ). after - m) (N ∙ ap nz (handed-back _ _ (offer-level S) (level-current (w .checked) i h) ∙ sym (offer-level S))))) l
 
     pub left-few : left ≤ 131072
     left-few =

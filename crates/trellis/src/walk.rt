@@ -39,10 +39,10 @@ pub(crate) fn write_levels(
     let mut left = count;
     let mut after = nonzeros;
     for i in 0..window.length {
-        let spot = plan.spot(scan, source, inv_qm, levels, i);
-        after -= steps::nonzero(spot.level);
+        let offer = plan.offer(scan, source, inv_qm, levels, i);
+        after -= steps::nonzero(offer.level);
         let least = position::least_count(past, after);
-        let candidates = spot.candidates;
+        let candidates = offer.candidates;
         let level = candidates.levels[choice_at(choices, i, least, left, prev)];
         steps::write_level(scan, levels, covered + i, level);
         prev = steps::nonzero(level);

@@ -2,18 +2,11 @@ use mathlib.Core.Path.{_≡_, refl, ap}
 use Prim.Native.Nat.{ℕ, _+_, _-_, _≤_, zero-le}
 use native.Mathlib.Omega.{arith}
 use Rattle.beam.specs.Held.{Walkable}
-use Rattle.beam.proofs.Taking.{base-few, position-few, window-few}
+use Rattle.beam.proofs.Taking.{position-few, window-few}
 use Rattle.beam.proofs.Walking.{WalkedTo, covered-few, in-window, past-window, walk-starts, levels-length, path-few, readable-on, index-below, walked-on, walk-ends}
 use borrow.Author.Needs.{needs}
 use Rattle.beam.proofs.walk.write_levels.Statement.{statement}
 use Rattle.beam.proofs.walk.write_levels.Tie as tie
-use Rattle.beam.proofs.walk.write_levels.Reads as reads
-use Rattle.beam.proofs.walk.write_levels.Lts as lts
-use Rattle.beam.proofs.walk.choice_at.Reads as choice-at-reads
-use Rattle.steps.proofs.nonzero.Reads as nonzero-reads
-use Rattle.steps.proofs.reading.Plan.spot.Reads as spot-reads
-use Rattle.steps.proofs.tokens.first_prev.Reads as first-prev-reads
-use Rattle.steps.proofs.write_level.Reads as write-level-reads
 
 abbrev Inv-loop : tie.InvT-loop
 Inv-loop scan source inv-qm levels₀ plan choices first count covered prev₀ path₀ i₀ i-end levels prev path i =
@@ -29,12 +22,12 @@ first-prev-requires c κs = covered-few (c .before .before .before .before .befo
 loop-holds : tie.Need-loop-holds Inv-loop μ-loop
 loop-holds c = ((λ w. walk-starts w (c .first-prev .ensures)), (refl, (refl, zero-le)))
 
-spot-requires : tie.Need-spot-requires Inv-loop μ-loop
-spot-requires c κs =
+offer-requires : tie.Need-offer-requires Inv-loop μ-loop
+offer-requires c κs =
     let w = c .before .before .before .before .before .before .before .before .before .pre in
     let inv = c .before .before .loop .inv in
     let h = in-window w (c .before .loop-test .taken) (inv .1 .1 .0) in
-    (readable-on w (inv .0 w) h, (base-few (w .checked), position-few (w .checked) _ h))
+    (readable-on w (inv .0 w) h, position-few (w .checked) _ h)
 
 choice-at-requires : tie.Need-choice-at-requires Inv-loop μ-loop
 choice-at-requires c κs =
@@ -49,8 +42,8 @@ mul-level c =
     let w = c .before .before .before .before .before .before .before .before .before .before .before .before .pre in
     let inv = c .before .before .before .before .before .loop .inv in
     let h = in-window w (c .before .before .before .before .loop-test .taken) (inv .1 .1 .0) in
-    let below = index-below w (inv .0 w) h (c .before .before .spot .ensures .0) (c .before .before .spot .ensures .1) (c .choice-at .ensures) in
-    let five = c .before .before .spot .ensures .1 .few in
+    let below = index-below w (inv .0 w) h (c .before .before .offer .ensures .0) (c .before .before .offer .ensures .1 .0) (c .choice-at .ensures) in
+    let five = c .before .before .offer .ensures .1 .0 .few in
     record { fits = omega arith }
 
 element-copy-out-level : tie.Need-element-copy-out-level Inv-loop μ-loop
@@ -58,9 +51,9 @@ element-copy-out-level c =
     let w = c .before .before .before .before .before .before .before .before .before .before .before .before .pre in
     let inv = c .before .before .before .before .before .loop .inv in
     let h = in-window w (c .before .before .before .before .loop-test .taken) (inv .1 .1 .0) in
-    let below = index-below w (inv .0 w) h (c .before .before .spot .ensures .0) (c .before .before .spot .ensures .1) (c .choice-at .ensures) in
-    let five = c .before .before .spot .ensures .1 .few in
-    omega (arith, c .before .before .spot .ensures .1 .five)
+    let below = index-below w (inv .0 w) h (c .before .before .offer .ensures .0) (c .before .before .offer .ensures .1 .0) (c .choice-at .ensures) in
+    let five = c .before .before .offer .ensures .1 .0 .few in
+    omega (arith, c .before .before .offer .ensures .1 .0 .five)
 
 add-write-level : tie.Need-add-write-level Inv-loop μ-loop
 add-write-level c =
@@ -94,8 +87,8 @@ loop-again : tie.Need-loop-again Inv-loop μ-loop
 loop-again c =
     let inv = c .before .before .before .before .before .before .before .before .before .before .loop .inv in
     let taken = c .before .before .before .before .before .before .before .before .before .loop-test .taken in
-    let spot = c .before .before .before .before .before .before .before .spot .ensures in (
-      λ w. walked-on w (inv .0 w) (in-window w taken (inv .1 .1 .0)) (spot .0) (spot .1) (c .before .before .before .before .before .choice-at .ensures) (c .nonzero .ensures) (ap (λ (n : ℕ). n + c .before .before .before .before .before .before .before .before .before .before .loop .i) (inv .1 .0)) (c .before .before .write-level .ensures),
+    let offer = c .before .before .before .before .before .before .before .offer .ensures in (
+      λ w. walked-on w (inv .0 w) (in-window w taken (inv .1 .1 .0)) (offer .0) (offer .1 .0) (c .before .before .before .before .before .choice-at .ensures) (c .nonzero .ensures) (ap (λ (n : ℕ). n + c .before .before .before .before .before .before .before .before .before .before .loop .i) (inv .1 .0)) (c .before .before .write-level .ensures),
       (inv .1 .0, (inv .1 .1 .0, omega arith)),
     )
 
@@ -115,7 +108,7 @@ write-levels-spec =
     μ-loop
     first-prev-requires
     loop-holds
-    spot-requires
+    offer-requires
     choice-at-requires
     mul-level
     element-copy-out-level

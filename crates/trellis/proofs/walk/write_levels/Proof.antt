@@ -8,18 +8,10 @@ use Rattle.trellis_table.specs.Rows.{windowLength}
 use Rattle.trellis.specs.Walk.{Walkable}
 use Rattle.trellis.proofs.Walking.{WalkedTo, walk-starts, walked-on, walk-ends, levels-length, in-window, past-window, readable-now, input-some, state-here, left-few, index-below, level-left}
 use Rattle.trellis_table.proofs.Totals.{covered-few}
-use Rattle.trellis_table.proofs.Steps.{base-few, position-few, window-is, window-few}
+use Rattle.trellis_table.proofs.Steps.{position-few, window-is, window-few}
 use borrow.Author.Needs.{needs}
 use Rattle.trellis.proofs.walk.write_levels.Statement.{statement}
 use Rattle.trellis.proofs.walk.write_levels.Tie as tie
-use Rattle.trellis.proofs.walk.write_levels.Reads as reads
-use Rattle.trellis.proofs.walk.write_levels.Lts as lts
-use Rattle.steps.proofs.nonzero.Reads as nonzero-reads
-use Rattle.steps.proofs.reading.Plan.spot.Reads as spot-reads
-use Rattle.steps.proofs.tokens.first_prev.Reads as first-prev-reads
-use Rattle.trellis_table.proofs.position.least_count.Reads as least-count-reads
-use Rattle.trellis.proofs.walk.choice_at.Reads as choice-at-reads
-use Rattle.steps.proofs.write_level.Reads as write-level-reads
 
 abbrev Inv-loop : tie.InvT-loop
 Inv-loop scan source inv-qm levels₀ plan past nonzeros choices count covered prev₀ left₀ after₀ i₀ i-end levels prev left after i =
@@ -35,12 +27,12 @@ first-prev-requires c κs = covered-few (c .before .before .before .before .befo
 loop-holds : tie.Need-loop-holds Inv-loop μ-loop
 loop-holds c = ((λ w. walk-starts w (c .first-prev .ensures)), (refl, (refl, zero-le)))
 
-spot-requires : tie.Need-spot-requires Inv-loop μ-loop
-spot-requires c κs =
+offer-requires : tie.Need-offer-requires Inv-loop μ-loop
+offer-requires c κs =
     let w = c .before .before .before .before .before .before .before .before .before .pre in
     let inv = c .before .before .loop .inv in
     let h = in-window w (c .before .loop-test .taken) (inv .1 .1 .0) in
-    (readable-now w (inv .0 w) h, (base-few (w .checked), position-few (w .checked) _ h))
+    (readable-now w (inv .0 w) h, position-few (w .checked) _ h)
 
 nonzero-requires : tie.Need-nonzero-requires Inv-loop μ-loop
 nonzero-requires c κs = search needs
@@ -50,7 +42,7 @@ sub-after c =
     let w = c .before .before .before .before .before .before .before .before .before .before .before .before .pre in
     let inv = c .before .before .before .before .before .loop .inv in
     let h = in-window w (c .before .before .before .before .loop-test .taken) (inv .1 .1 .0) in
-    input-some w (inv .0 w) h (c .before .before .spot .ensures .0) (c .nonzero .ensures)
+    input-some w (inv .0 w) h (c .before .before .offer .ensures .0) (c .nonzero .ensures)
 
 least-count-requires : tie.Need-least-count-requires Inv-loop μ-loop
 least-count-requires c κs = search needs
@@ -61,7 +53,7 @@ choice-at-requires c κs =
     let inv = c .before .before .before .before .before .before .before .loop .inv in
     let h = in-window w (c .before .before .before .before .before .before .loop-test .taken) (inv .1 .1 .0) in
     let few = window-few (w .checked) in
-    let row = state-here w (inv .0 w) h (c .before .before .before .before .spot .ensures .0) (c .before .before .nonzero .ensures) (c .before .least-count .ensures) in
+    let row = state-here w (inv .0 w) h (c .before .before .before .before .offer .ensures .0) (c .before .before .nonzero .ensures) (c .before .least-count .ensures) in
     ((omega arith, (left-few w (inv .0 w) h, omega (arith, w .room))), (row .0, (row .1, inv .0 w .bit)))
 
 mul-level : tie.Need-mul-level Inv-loop μ-loop
@@ -69,8 +61,8 @@ mul-level c =
     let w = c .before .before .before .before .before .before .before .before .before .before .before .before .before .before .before .pre in
     let inv = c .before .before .before .before .before .before .before .before .loop .inv in
     let h = in-window w (c .before .before .before .before .before .before .before .loop-test .taken) (inv .1 .1 .0) in
-    let below = index-below w (inv .0 w) h (c .before .before .before .before .before .spot .ensures .0) (c .before .before .before .before .before .spot .ensures .1) (c .before .before .before .nonzero .ensures) (c .before .before .least-count .ensures) (c .choice-at .ensures) in
-    let five = c .before .before .before .before .before .spot .ensures .1 .few in
+    let below = index-below w (inv .0 w) h (c .before .before .before .before .before .offer .ensures .0) (c .before .before .before .before .before .offer .ensures .1 .0) (c .before .before .before .nonzero .ensures) (c .before .before .least-count .ensures) (c .choice-at .ensures) in
+    let five = c .before .before .before .before .before .offer .ensures .1 .0 .few in
     record { fits = omega arith }
 
 element-copy-out-level : tie.Need-element-copy-out-level Inv-loop μ-loop
@@ -78,8 +70,8 @@ element-copy-out-level c =
     let w = c .before .before .before .before .before .before .before .before .before .before .before .before .before .before .before .pre in
     let inv = c .before .before .before .before .before .before .before .before .loop .inv in
     let h = in-window w (c .before .before .before .before .before .before .before .loop-test .taken) (inv .1 .1 .0) in
-    let below = index-below w (inv .0 w) h (c .before .before .before .before .before .spot .ensures .0) (c .before .before .before .before .before .spot .ensures .1) (c .before .before .before .nonzero .ensures) (c .before .before .least-count .ensures) (c .choice-at .ensures) in
-    let five = c .before .before .before .before .before .spot .ensures .1 .few in
+    let below = index-below w (inv .0 w) h (c .before .before .before .before .before .offer .ensures .0) (c .before .before .before .before .before .offer .ensures .1 .0) (c .before .before .before .nonzero .ensures) (c .before .before .least-count .ensures) (c .choice-at .ensures) in
+    let five = c .before .before .before .before .before .offer .ensures .1 .0 .few in
     omega arith
 
 add-write-level : tie.Need-add-write-level Inv-loop μ-loop
@@ -105,7 +97,7 @@ sub-left c =
     let w = c .before .before .before .before .before .before .before .before .before .before .before .before .before .before .before .before .before .before .before .before .pre in
     let inv = c .before .before .before .before .before .before .before .before .before .before .before .before .before .loop .inv in
     let h = in-window w (c .before .before .before .before .before .before .before .before .before .before .before .before .loop-test .taken) (inv .1 .1 .0) in
-    level-left w (inv .0 w) h (c .before .before .before .before .before .before .before .before .before .before .spot .ensures .0) (c .before .before .before .before .before .before .before .before .before .before .spot .ensures .1) (c .before .before .before .before .before .before .before .before .nonzero .ensures) (c .before .before .before .before .before .before .before .least-count .ensures) (c .before .before .before .before .before .choice-at .ensures) (c .nonzero2 .ensures)
+    level-left w (inv .0 w) h (c .before .before .before .before .before .before .before .before .before .before .offer .ensures .0) (c .before .before .before .before .before .before .before .before .before .before .offer .ensures .1 .0) (c .before .before .before .before .before .before .before .before .nonzero .ensures) (c .before .before .before .before .before .before .before .least-count .ensures) (c .before .before .before .before .before .choice-at .ensures) (c .nonzero2 .ensures)
 
 add-i : tie.Need-add-i Inv-loop μ-loop
 add-i c =
@@ -121,8 +113,8 @@ loop-again : tie.Need-loop-again Inv-loop μ-loop
 loop-again c =
     let inv = c .before .before .before .before .before .before .before .before .before .before .before .before .before .loop .inv in
     let taken = c .before .before .before .before .before .before .before .before .before .before .before .before .loop-test .taken in
-    let spot = c .before .before .before .before .before .before .before .before .before .before .spot .ensures in (
-      λ w. walked-on w (inv .0 w) (in-window w taken (inv .1 .1 .0)) (spot .0) (spot .1) (c .before .before .before .before .before .before .before .before .nonzero .ensures) (c .before .before .before .before .before .before .before .least-count .ensures) (c .before .before .before .before .before .choice-at .ensures) (c .nonzero2 .ensures) (ap (λ (n : ℕ). n + c .before .before .before .before .before .before .before .before .before .before .before .before .before .loop .i) (inv .1 .0)) (c .before .before .write-level .ensures),
+    let offer = c .before .before .before .before .before .before .before .before .before .before .offer .ensures in (
+      λ w. walked-on w (inv .0 w) (in-window w taken (inv .1 .1 .0)) (offer .0) (offer .1 .0) (c .before .before .before .before .before .before .before .before .nonzero .ensures) (c .before .before .before .before .before .before .before .least-count .ensures) (c .before .before .before .before .before .choice-at .ensures) (c .nonzero2 .ensures) (ap (λ (n : ℕ). n + c .before .before .before .before .before .before .before .before .before .before .before .before .before .loop .i) (inv .1 .0)) (c .before .before .write-level .ensures),
       (inv .1 .0, (inv .1 .1 .0, omega arith)),
     )
 
@@ -142,7 +134,7 @@ write-levels-spec =
     μ-loop
     first-prev-requires
     loop-holds
-    spot-requires
+    offer-requires
     nonzero-requires
     sub-after
     least-count-requires

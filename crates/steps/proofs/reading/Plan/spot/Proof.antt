@@ -1,52 +1,26 @@
-use lib.Dec.{ltb}
-use Rattle.steps.proofs.Spots.{spotted, filled-usable}
-use mathlib.Core.Path.{_≡_, refl, _∙_, ap}
-use Rattle.steps.proofs.Zero.{handed-current, handed-back}
+use mathlib.Core.Path.{refl, _∙_}
+use Rattle.steps.proofs.Zero.{handed-current, current-back}
 use borrow.Author.Needs.{needs}
 use Rattle.steps.proofs.reading.Plan.spot.Statement.{statement}
 use Rattle.steps.proofs.reading.Plan.spot.Tie as tie
 
-add-k : tie.Need-add-k
-add-k c = search needs
+offer-requires : tie.Need-offer-requires
+offer-requires c κs = search needs
 
-ideal-at-requires : tie.Need-ideal-at-requires
-ideal-at-requires c κs = search needs
-
-level-at-requires : tie.Need-level-at-requires
-level-at-requires c κs = search needs
-
-position-weight-requires : tie.Need-position-weight-requires
-position-weight-requires c κs = search needs
-
-nonzero-rate-requires : tie.Need-nonzero-rate-requires
-nonzero-rate-requires c κs = search needs
-
-rdoq-candidates-requires : tie.Need-rdoq-candidates-requires
-rdoq-candidates-requires c κs =
-    let start = c .before .before .before .before .before .before .before .before .before .before .before in
-    let ideal = c .before .before .before .before .before .before .ideal-at .ensures in
-    let level = c .before .before .before .before .before .level-at .ensures in
-    (rw ideal (start .pre .0 .ideal), handed-current _ _ level (start .pre .0 .level))
+place-requires : tie.Need-place-requires
+place-requires c κs =
+    let start = c .before .before .before .before .before .before in
+    (start .pre .1 .0, (start .pre .1 .1, handed-current (c .before .before .offer .result .level) _ refl (c .before .before .offer .ensures .1 .1)))
 
 returns : tie.Need-returns
 returns c =
-    let start = c .before .before .before .before .before .before .before .before .before .before .before .before in
-    let ideal = c .before .before .before .before .before .before .before .ideal-at .ensures in
-    let level = c .before .before .before .before .before .before .level-at .ensures in
-    let back = handed-back _ _ level (start .pre .0 .level) in
-    let found = c .rdoq-candidates .ensures in (
-      λ b lists planned. spotted b _ _ _ _ _ _ _ _ _ _ _ _ lists planned refl ideal back (c .before .before .before .position-weight .ensures) (c .before .before .nonzero-rate .ensures) found,
-      filled-usable _ _ (ltb (start .args .i) (start .args .self .window .restoring)) _ (rw ideal (start .pre .0 .ideal)) (handed-current _ _ level (start .pre .0 .level)) found,
+    let offer = c .before .before .before .before .offer .ensures in
+    let back = current-back (c .before .before .before .before .offer .result .level) (offer .1 .1) in (
+      λ b lists planned.
+          let o = offer .0 b lists planned in
+          record { place-is = c .before .place .ensures b planned (o .ideal-is) (back ∙ o .level-is); listed-is = o .listed-is; level-is = back ∙ o .level-is },
+      offer .1 .0,
     )
 
 pub spot-spec : {M : Type 1} → statement M
-spot-spec =
-    tie.close
-    (tie.spec
-    add-k
-    ideal-at-requires
-    level-at-requires
-    position-weight-requires
-    nonzero-rate-requires
-    rdoq-candidates-requires
-    returns)
+spot-spec = tie.close (tie.spec offer-requires place-requires returns)
