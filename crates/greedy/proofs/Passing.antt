@@ -21,9 +21,9 @@ use Rattle.least_cost.specs.Position.{nz}
 use Rattle.least_cost.specs.Search.{holder}
 use Rattle.prices.specs.Book.{Book}
 use Rattle.scan.specs.Scan.{levelAt}
-use Rattle.steps.specs.Plan.{Planned, Lists, Readable, Spotted, Usable, listed}
+use Rattle.steps.specs.Plan.{Planned, Lists, Readable, Offered, Usable, listed}
 use Rattle.steps.specs.declared.reading.Plan.{Plan}
-use Rattle.steps.specs.declared.reading.Spot.{Spot}
+use Rattle.steps.specs.declared.reading.Offer.{Offer}
 use Rattle.steps.proofs.Counting.{among-most}
 use Rattle.weights.specs.Window.{windowOf}
 use Rattle.greedy.specs.Greedy.{none, othersOf, frontOf, runStart, zerosFrom, runOf, costOf, greedyCost, stays, chosen}
@@ -153,12 +153,12 @@ pub inputs : {b : Block} {p : Plan} {scan : List ℕ} {source inverse : List Flo
 unfolding inputAt
 inputs i l w = rw (l .scan-is, l .levels-is, w .covered-is)
 
-module _ (book : Book) {b : Block} {log2 i : ℕ} {spot : Spot} (s : Spotted b log2 i spot) (u : Usable (spot .candidates)) {current : ℤ} (ec : current ≡ inputAt b (covered b + i))
-    {later : ℕ} (e : later ≡ inputAfter b i) {t : Bool} (et : t ≡ (eqb (spot .candidates .count) 1 || (eqb (nz current) 0 && eqb later 0))) where
+module _ (book : Book) {b : Block} {i : ℕ} {offer : Offer} (s : Offered b i offer) (u : Usable (offer .candidates)) {current : ℤ} (ec : current ≡ inputAt b (covered b + i))
+    {later : ℕ} (e : later ≡ inputAfter b i) {t : Bool} (et : t ≡ (eqb (offer .candidates .count) 1 || (eqb (nz current) 0 && eqb later 0))) where
   stays-is : t ≡ stays (windowOf (covered b)) b i
   unfolding stays
   stays-is =
-      let many : spot .candidates .count ≡ length (candidatesAt (windowOf (covered b)) b i) = sym (listed-length u) ∙ ap length (s .listed-is) in
+      let many : offer .candidates .count ≡ length (candidatesAt (windowOf (covered b)) b i) = sym (listed-length u) ∙ ap length (s .listed-is) in
       cc
 
   pub chosen-stays : t ≡ true → current ≡ chosen (windowOf (covered b)) book b i
@@ -166,7 +166,7 @@ module _ (book : Book) {b : Block} {log2 i : ℕ} {spot : Spot} (s : Spotted b l
   chosen-stays it = rw (sym stays-is ∙ it) ec
 
   pub chosen-least : {others front : ℕ} {run : Float} {r : ℤ} → t ≡ false → others ≡ othersOf b i → front ≡ frontOf b i → run ≡ runOf book b i
-      → r ≡ holder (costOf book b i later others front run) (inf false) current (listed (spot .candidates)) → r ≡ chosen (windowOf (covered b)) book b i
+      → r ≡ holder (costOf book b i later others front run) (inf false) current (listed (offer .candidates)) → r ≡ chosen (windowOf (covered b)) book b i
   unfolding chosen greedyCost
   chosen-least it eo ef er eh =
       let cands = s .listed-is in

@@ -104,13 +104,13 @@ fn choice(
         → r ≡ chosen (windowOf (coveredBy b)) (bookOf clusters (now (map .entry)) (now (configs .entry)) (now (symbols .entry)) (now (ready .entry))) b i) ⌝ }
     ensures { λ r. ⌜ T (isLevel r) ⌝ }
 {
-    let spot = plan.spot(scan, source, inv_qm, levels, i);
-    let place = spot.place;
-    let candidates = spot.candidates;
-    let current = steps::level_at(scan, levels, plan.covered + i);
+    let offer = plan.offer(scan, source, inv_qm, levels, i);
+    let candidates = offer.candidates;
+    let current = offer.level;
     if stays(candidates.count, current, counts.later) {
         return current;
     }
+    let place = plan.place(i, offer.ideal, current);
     let front = front(scan, levels, plan.covered, i);
     let run = run_bits(
         clusters,

@@ -14,6 +14,7 @@ ghost use Prim.Native.Nat.{_+_, _*_, _<_, _≤_};
 ghost use Rattle.ac_context.specs.Contexts.{isPowerBelow};
 ghost use Rattle.block.specs.Block.{Block, blockOf, inputAt, ideal as idealOf, covered as coveredBy};
 ghost use Rattle.candidates.specs.Candidates.{isCurrent};
+ghost use Rattle.scan.specs.Scan.{levelAt};
 ghost use Rattle.steps.specs.Place.{distortionAt, placeOf};
 ghost use Rattle.steps.specs.Plan.{Planned, Coded, Lists, Readable, Offered, Spotted, listed, Usable, Each};
 
@@ -88,7 +89,7 @@ impl Plan {
         requires { ⌜ Readable (now scan) (now source) (now «inv_qm») (now levels) (self .scale) (self .covered + i) ⌝ }
         requires { ⌜ self .covered + i < 65536 ⌝ }
         ensures { λ r. ⌜ ((b : Block) → Lists b (now (scan .entry)) (now (source .entry)) (now («inv_qm» .entry)) (now (levels .entry)) → Planned b self → Offered b i r) ⌝ }
-        ensures { λ r. ⌜ (Usable (r .candidates)) × T (isCurrent (r .level)) ⌝ }
+        ensures { λ r. ⌜ (Usable (r .candidates)) × (r .level ≡ levelAt (now (scan .entry)) (now (levels .entry)) (self .covered + i)) ⌝ }
     {
         let k = self.covered + i;
         let ideal = crate::ideal_at(scan, source, inv_qm, self.scale, k);

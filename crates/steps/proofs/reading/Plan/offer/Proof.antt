@@ -28,10 +28,9 @@ returns c =
     let ideal = c .before .before .before .before .ideal-at .ensures in
     let level = c .before .before .before .level-at .ensures in
     let back = handed-back _ _ level (start .pre .0 .level) in
-    let current = handed-current _ _ level (start .pre .0 .level) in
     let found = c .rdoq-candidates .ensures in (
       λ b lists planned. offered b _ _ _ _ _ _ _ _ _ _ lists planned refl ideal back found,
-      (filled-usable _ _ (ltb (start .args .i) (start .args .self .window .restoring)) _ (rw ideal (start .pre .0 .ideal)) current found, current),
+      (filled-usable _ _ (ltb (start .args .i) (start .args .self .window .restoring)) _ (rw ideal (start .pre .0 .ideal)) (handed-current _ _ level (start .pre .0 .level)) found, back),
     )
 
 pub offer-spec : {M : Type 1} → statement M
