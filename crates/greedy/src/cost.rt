@@ -45,41 +45,6 @@ impl Best {
     }
 }
 
-fn density(covered: usize, log2: u32, remaining: usize, k: usize, prev: usize) -> usize
-    requires { ⌜ Covered covered log2 ⌝ }
-    requires { ⌜ Coefficient covered remaining k prev ⌝ }
-    ensures { λ r. ⌜ (r ≡ zeroDensityContext covered remaining k prev) × (r < 458) ⌝ }
-{
-    if covered == 1 {
-        return ac_context::zero_density_context_8x8(remaining, k, prev);
-    }
-    ac_context::zero_density_context(remaining, k, covered, log2, prev)
-}
-
-// The price of a level's token.
-pub(crate) fn token_bits(
-    clusters: u32,
-    map: &[u8],
-    configs: &[u8],
-    symbols: &[f32],
-    ready: &[f32],
-    plan: Plan,
-    remaining: usize,
-    k: usize,
-    prev: usize,
-    level: i32,
-) -> f32
-    requires { ⌜ bookRefusal (bookOf clusters (now map) (now configs) (now symbols) (now ready)) ≡ 0 ⌝ }
-    requires { ⌜ Coded plan ⌝ }
-    requires { ⌜ Coefficient (plan .covered) remaining k prev ⌝ }
-    requires { ⌜ T (isLevel level) ⌝ }
-    ensures { λ r. ⌜ ((b : Block) → Planned b plan → r ≡ tokenPrice (bookOf clusters (now (map .entry)) (now (configs .entry)) (now (symbols .entry)) (now (ready .entry))) b remaining k prev level) ⌝ }
-{
-    let context = plan.offset + density(plan.covered, plan.log2, remaining, k, prev);
-    let value = packing::pack_signed(level);
-    prices::token_bits(clusters, map, configs, symbols, ready, context, value)
-}
-
 // `prev` at window position i: the first position's follows the block's count.
 fn prev_at(covered: usize, i: usize, front: usize, count: usize) -> usize
     requires { ⌜ (covered ≤ 1024) × (front ≤ 1) ⌝ }
@@ -118,7 +83,7 @@ fn bits(
     if remaining == 0 {
         return 0.0;
     }
-    let token = token_bits(
+    let token = steps::tokens::token_bits(
         clusters,
         map,
         configs,

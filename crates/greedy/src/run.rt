@@ -1,5 +1,4 @@
 // The zeros that a nonzero level has coded in front of it where none stands behind it.
-use crate::cost;
 use steps::reading::Plan;
 ghost use mathlib.Core.Path.{_≡_};
 ghost use Prim.Native.Nat.{_+_, _-_, _*_, _<_, _≤_};
@@ -46,7 +45,7 @@ pub(crate) fn zeros(
     let mut prev = 1;
     let mut j = start;
     while j < end {
-        sum += cost::token_bits(
+        sum += steps::tokens::token_bits(
             clusters,
             map,
             configs,

@@ -8,6 +8,7 @@ ghost use lib.IntN.{pos};
 ghost use lib.ListN.{length};
 ghost use lib.Ieee.{fin, mul, binary32};
 ghost use Rattle.ac_context.specs.Contexts.{Coefficient};
+ghost use Rattle.bias.specs.Level.{isLevel};
 ghost use Rattle.block.specs.Block.{Block, nonzerosAmong};
 ghost use Rattle.block.specs.Cost.{tokenPrice, tokensFrom, countCost};
 ghost use Rattle.candidates.specs.Candidates.{isCurrent};
@@ -31,6 +32,31 @@ pub fn nonzeros_from(scan: &[u32], levels: &[i32], from: usize, covered: usize) 
     count
 }
 
+// The price of a level's token.
+pub fn token_bits(
+    clusters: u32,
+    map: &[u8],
+    configs: &[u8],
+    symbols: &[f32],
+    ready: &[f32],
+    plan: Plan,
+    remaining: usize,
+    k: usize,
+    prev: usize,
+    level: i32,
+) -> f32
+    requires { ⌜ bookRefusal (bookOf clusters (now map) (now configs) (now symbols) (now ready)) ≡ 0 ⌝ }
+    requires { ⌜ Coded plan ⌝ }
+    requires { ⌜ Coefficient (plan .covered) remaining k prev ⌝ }
+    requires { ⌜ T (isLevel level) ⌝ }
+    ensures { λ r. ⌜ ((b : Block) → Planned b plan → r ≡ tokenPrice (bookOf clusters (now (map .entry)) (now (configs .entry)) (now (symbols .entry)) (now (ready .entry))) b remaining k prev level) ⌝ }
+{
+    let context = plan.offset
+        + ac_context::zero_density_context(remaining, k, plan.covered, plan.log2, prev);
+    let value = packing::pack_signed(level);
+    prices::token_bits(clusters, map, configs, symbols, ready, context, value)
+}
+
 // lambda times the price of a level's token.
 fn token_cost(
     clusters: u32,
@@ -50,10 +76,19 @@ fn token_cost(
     requires { ⌜ T (isCurrent level) ⌝ }
     ensures { λ r. ⌜ ((b : Block) → Planned b plan → r ≡ mul binary32 (plan .lambda) (tokenPrice (bookOf clusters (now (map .entry)) (now (configs .entry)) (now (symbols .entry)) (now (ready .entry))) b remaining k prev level)) ⌝ }
 {
-    let context = plan.offset
-        + ac_context::zero_density_context(remaining, k, plan.covered, plan.log2, prev);
-    let value = packing::pack_signed(level);
-    plan.lambda * prices::token_bits(clusters, map, configs, symbols, ready, context, value)
+    plan.lambda
+        * token_bits(
+            clusters,
+            map,
+            configs,
+            symbols,
+            ready,
+            plan,
+            remaining,
+            k,
+            prev,
+            level,
+        )
 }
 
 // `prev` at the first position.
