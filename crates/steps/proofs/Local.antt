@@ -18,7 +18,7 @@ use Rattle.least_cost.specs.Position.{nz}
 use Rattle.packing.specs.Signed.{packSigned}
 use Rattle.prices.specs.Book.{Book, price}
 use Rattle.weights.specs.Settings.{restoreRate}
-use Rattle.steps.specs.Place.{distortionAt, rateAt, contextAt, localIn, localAt, nonzeroRate, placeOf}
+use Rattle.steps.specs.Place.{distortionAt, rateAt, contextAt, ratedIn, localIn, localAt, nonzeroRate, placeOf}
 
 offset-some : (n : ℕ) → fineZeroDensityContextsOffset n ≡ 0 → ⊥
 unfolding fineZeroDensityContextsOffset
@@ -54,7 +54,7 @@ rate-same b log2 i q = ⊎-elim none some (nz-two q)
         go false = refl
 
 pub local-is : (book : Book) (b : Block) (log2 i r p : ℕ) (q : ℤ) → p ≤ 1 → localAt book (placeOf b log2 i) r p q ≡ localCost book b i r p q
-unfolding localAt localIn contextAt distortionAt placeOf localCost distortion tokenPrice
+unfolding localAt localIn ratedIn contextAt distortionAt placeOf localCost distortion tokenPrice
 local-is book b log2 i r p q h = go (eqb r 0)
   where
     d : Float

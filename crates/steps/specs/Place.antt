@@ -25,11 +25,14 @@ rateAt x q = cond (eqb (nz q) 0) (x .lambda) (x .«nonzero_rate»)
 unfoldable pub contextAt : Place → ℕ → ℕ
 contextAt x remaining = cond (eqb remaining 0) 0 (x .offset + zeroDensityContext (x .covered) remaining (x .k) 0)
 
+-- the rated price of the level's token, by its context
+unfoldable pub ratedIn : Book → Place → ℕ → ℕ → ℤ → Float
+ratedIn book x context prev q = mul binary32 (rateAt x q) (price book (context + prev) (packSigned q))
+
 -- the local cost by the token's context
 unfoldable pub localIn : Book → Place → ℕ → ℕ → ℤ → Float
 localIn book x context prev q =
-    cond (eqb context 0) (distortionAt x q)
-    (add binary32 (distortionAt x q) (mul binary32 (rateAt x q) (price book (context + prev) (packSigned q))))
+    cond (eqb context 0) (distortionAt x q) (add binary32 (distortionAt x q) (ratedIn book x context prev q))
 
 -- the local cost by what remains
 unfoldable pub localAt : Book → Place → ℕ → ℕ → ℤ → Float

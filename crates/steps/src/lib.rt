@@ -17,7 +17,7 @@ ghost use Rattle.least_cost.specs.Position.{nz};
 ghost use Rattle.prices.specs.Book.{bookOf, price};
 ghost use Rattle.prices.specs.Checks.{bookRefusal};
 ghost use Rattle.scan.specs.Scan.{levelAt};
-ghost use Rattle.steps.specs.Place.{distortionAt, rateAt, contextAt, localIn};
+ghost use Rattle.steps.specs.Place.{distortionAt, rateAt, contextAt, ratedIn, localIn};
 
 // All that prices a level at one window position: the scan position, the covered blocks and their logarithm, the first coefficient
 // context, the distortion's weight, the ideal, the bias, and the rates of the level 0 and of any other.
@@ -101,6 +101,32 @@ impl Place {
             + ac_context::zero_density_context(remaining, self.k, self.covered, self.log2, 0)
     }
 
+    // The rated prices of a level's token for `prev` 0 and 1.
+    pub fn rated_pair(
+        self,
+        clusters: u32,
+        map: &[u8],
+        configs: &[u8],
+        symbols: &[f32],
+        ready: &[f32],
+        context: usize,
+        level: i32,
+    ) -> Pair
+        requires { ⌜ bookRefusal (bookOf clusters (now map) (now configs) (now symbols) (now ready)) ≡ 0 ⌝ }
+        requires { ⌜ context + 1 < 14850 ⌝ }
+        requires { ⌜ T (isLevel level) ⌝ }
+        ensures { λ r. ⌜ (r .first ≡ ratedIn (bookOf clusters (now (map .entry)) (now (configs .entry)) (now (symbols .entry)) (now (ready .entry))) self context 0 level)
+            × (r .second ≡ ratedIn (bookOf clusters (now (map .entry)) (now (configs .entry)) (now (symbols .entry)) (now (ready .entry))) self context 1 level) ⌝ }
+    {
+        let value = packing::pack_signed(level);
+        let bits = prices::token_bits_pair(clusters, map, configs, symbols, ready, context, value);
+        let rate = self.rate(level);
+        Pair {
+            first: rate * bits.first,
+            second: rate * bits.second,
+        }
+    }
+
     // The local costs of a level for `prev` 0 and 1, its distortion at hand.
     pub fn local_pair(
         self,
@@ -126,12 +152,10 @@ impl Place {
                 second: distortion,
             };
         }
-        let value = packing::pack_signed(level);
-        let bits = prices::token_bits_pair(clusters, map, configs, symbols, ready, context, value);
-        let rate = self.rate(level);
+        let rated = self.rated_pair(clusters, map, configs, symbols, ready, context, level);
         Pair {
-            first: distortion + rate * bits.first,
-            second: distortion + rate * bits.second,
+            first: distortion + rated.first,
+            second: distortion + rated.second,
         }
     }
 }

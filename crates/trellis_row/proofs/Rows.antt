@@ -18,12 +18,12 @@ use Rattle.costs.proofs.Sum.{add-inf}
 use Rattle.least_cost.specs.Search.{least, nonzeros, hasZero}
 use Rattle.least_cost.proofs.Trial.{nonzeros-listed}
 use Rattle.prices.specs.Book.{Book}
-use Rattle.steps.specs.Place.{localAt}
+use Rattle.steps.specs.Place.{contextAt, localIn, localAt}
 use Rattle.steps.specs.declared.Place.{Place}
 use Rattle.candidates.specs.declared.Candidates.{Candidates}
-use Rattle.trellis_row.specs.Locals.{listed, Held}
+use Rattle.trellis_row.specs.Locals.{listed, Located}
 use Rattle.trellis_row.specs.Chosen.{with, stateCost, stateLevel, nonzeroCost, zeroCost, ZeroAt, Settled}
-use Rattle.trellis_row.specs.Row.{tailAt, nonzeroTail, zeroTail, rowCost, rowLevel, EntryIs, RowIs, Elsewhere, Workable}
+use Rattle.trellis_row.specs.Row.{tailAt, nonzeroTail, zeroTail, rowCost, rowLevel, EntryIs, RowIs, Elsewhere, Coding, Workable}
 use Rattle.trellis_row.proofs.Choosing.{zero-listed}
 use Rattle.trellis_row.specs.declared.chosen.Chosen.{Chosen}
 use Rattle.trellis_row.specs.declared.locals.Locals.{Locals}
@@ -160,11 +160,6 @@ pub not-below : (t : Float) → T (cost t) → lt t (inf false) ≡ false → t 
 not-below t C e = infinite t C (subst⁻¹ (λ (b : Bool). T (not b)) (sym (lt-inf t C) ∙ e) tt)
 
 -- ---- a count's pair, written behind the pairs of the counts before it
-pub record Written (book : Book) (x : Place) (levels : List ℤ) (next : List Float) (s : Span) (least r at : ℕ) (row row' : List Float) (choices choices' : List ℕ) : Type 0 where
-  pub size : length row' ≡ length row
-  pub elsewhere : Elsewhere (at + 2 * (r - least)) 2 choices choices'
-  pub more : RowIs book x levels next s least at (2 * (r - least)) row choices → RowIs book x levels next s least at (2 * (r - least) + 2) row' choices'
-
 module _ (book : Book) (x : Place) (levels : List ℤ) (next : List Float) (s : Span) (least r at : ℕ) (row row' : List Float) (choices choices' : List ℕ) (a b : Float) (m n : ℕ)
     (from : least ≤ r) (room : 2 * (r - least) + 1 < length row) (space : at + 2 * (r - least) + 1 < length choices)
     (e : row' ≡ set (set row (2 * (r - least)) a) (2 * (r - least) + 1) b) (f : choices' ≡ set (set choices (at + 2 * (r - least)) m) (at + 2 * (r - least) + 1) n) where
@@ -180,26 +175,77 @@ module _ (book : Book) (x : Place) (levels : List ℤ) (next : List Float) (s : 
   second-prev : (2 * (r - least) + 1) % 2 ≡ 1
   second-prev = omega arith
 
-  written : EntryIs book x levels next s least (2 * (r - least)) a m → EntryIs book x levels next s least (2 * (r - least) + 1) b n → Written book x levels next s least r at row row' choices choices'
-  written p q =
-      record {
-        size = ap length e ∙ simp length-set;
-        elsewhere = rw f (elsewhere-pair choices (at + 2 * (r - least)) m n);
-        more = λ w. rw (e, f) (row-more book x levels next s least r at (2 * (r - least)) row choices a b m n room space w p q);
-      }
+  abbrev Written : Type 0
+  Written = RowIs book x levels next s least at (2 * (r - least)) row choices → RowIs book x levels next s least at (2 * (r - least) + 2) row' choices'
+
+  written : EntryIs book x levels next s least (2 * (r - least)) a m → EntryIs book x levels next s least (2 * (r - least) + 1) b n → Written
+  written p q = λ w. rw (e, f) (row-more book x levels next s least r at (2 * (r - least)) row choices a b m n room space w p q)
 
   pub written-settled : Settled (localAt book x r 0) (nonzeroTail next s r) (zeroTail levels next s r) levels (record { cost = a; choice = m })
-      → Settled (localAt book x r 1) (nonzeroTail next s r) (zeroTail levels next s r) levels (record { cost = b; choice = n })
-      → Written book x levels next s least r at row row' choices choices'
+      → Settled (localAt book x r 1) (nonzeroTail next s r) (zeroTail levels next s r) levels (record { cost = b; choice = n }) → Written
   written-settled p q =
       written (entry-settled book x levels next s least r (2 * (r - least)) 0 a m first-count first-prev p)
       (entry-settled book x levels next s least r (2 * (r - least) + 1) 1 b n second-count second-prev q)
 
   pub written-dead : ((p : ℕ) (q : ℤ) → p ≤ 1 → Mem q levels → T (cost (localAt book x r p q))) → nonzeroTail next s r ≡ inf false → zeroTail levels next s r ≡ inf false
-      → a ≡ inf false → b ≡ inf false → Written book x levels next s least r at row row' choices choices'
+      → a ≡ inf false → b ≡ inf false → Written
   written-dead G u v p q =
       written (rw p (entry-dead book x levels next s least r (2 * (r - least)) 0 m first-count first-prev (λ z. G 0 z (lit≤ tt)) u v))
       (rw q (entry-dead book x levels next s least r (2 * (r - least) + 1) 1 n second-count second-prev (λ z. G 1 z (lit≤ tt)) u v))
+
+-- the local costs in a context are those of each count that has it
+pub located-at : (book : Book) (x : Place) (levels : List ℤ) (l : Locals) (n context : ℕ) → contextAt x n ≡ context → Located (localIn book x context 0) (localIn book x context 1) levels l
+    → Located (localAt book x n 0) (localAt book x n 1) levels l
+unfolding localAt
+located-at book x levels l n context e w = subst⁻¹ (λ (k : ℕ). Located (localIn book x k 0) (localIn book x k 1) levels l) e w
+
+-- ---- a run of counts
+-- what holds up to e and of the next number holds up to that
+pub up-to-more : (P : ℕ → Type 0) (from e : ℕ) → ((n : ℕ) → from ≤ n → n ≤ e → P n) → P (e + 1) → (n : ℕ) → from ≤ n → n ≤ e + 1 → P n
+up-to-more P from e h k n low high = go (leb n e) refl
+  where
+    go : (t : Bool) → leb n e ≡ t → P n
+    go true u = h n low (leb-true n e u)
+    go false u =
+        let last : e + 1 ≡ n = omega (arith, leb-false n e u) in
+        subst P last k
+
+-- the counts from `from` up to r, r not included, are done; R is what a count's states are worked out from
+pub record Ran (R : Book → Place → ℕ → Type 0) (levels : List ℤ) (next : List Float) (s : Span) (at least from upto r : ℕ) (row row' : List Float) (choices choices' : List ℕ) : Type 0 where
+  pub start : from ≤ r
+  pub end : r ≤ upto + 1
+  pub size : length row' ≡ length row
+  pub elsewhere : Elsewhere (at + 2 * (from - least)) (2 * (r - from)) choices choices'
+  pub more : (book : Book) (x : Place) → ((n : ℕ) → from ≤ n → n ≤ upto → R book x n)
+      → RowIs book x levels next s least at (2 * (from - least)) row choices → RowIs book x levels next s least at (2 * (r - least)) row' choices'
+
+pub ran-none : (R : Book → Place → ℕ → Type 0) (levels : List ℤ) (next : List Float) (s : Span) (at least from upto : ℕ) (row : List Float) (choices : List ℕ) → from ≤ upto
+    → Ran R levels next s at least from upto from row row choices choices
+ran-none R levels next s at least from upto row choices h =
+    let nothing : 2 * (from - from) ≡ 0 = omega arith in
+    record {
+      start = le-refl from;
+      end = omega arith;
+      size = refl;
+      elsewhere = rw nothing (elsewhere-none (at + 2 * (from - least)) choices);
+      more = λ book x G w. w;
+    }
+
+pub ran-more : {R : Book → Place → ℕ → Type 0} {levels : List ℤ} {next : List Float} {s : Span} {at least from upto r : ℕ} {row row' row'' : List Float} {choices choices' choices'' : List ℕ}
+    → least ≤ from → r ≤ upto → Ran R levels next s at least from upto r row row' choices choices' → length row'' ≡ length row' → Elsewhere (at + 2 * (r - least)) 2 choices' choices''
+    → ((book : Book) (x : Place) → R book x r → RowIs book x levels next s least at (2 * (r - least)) row' choices' → RowIs book x levels next s least at (2 * (r - least) + 2) row'' choices'')
+    → Ran R levels next s at least from upto (r + 1) row row'' choices choices''
+ran-more {R} {levels} {next} {s} {at} {least} {from} {upto} {r} low h w size elsewhere more =
+    let step : 2 * (r + 1 - least) ≡ 2 * (r - least) + 2 = omega (arith, w .start) in
+    let wide : 2 * (r + 1 - from) ≡ 2 * (r - from) + 2 = omega (arith, w .start) in
+    let place : at + 2 * (r - least) ≡ at + 2 * (from - least) + 2 * (r - from) = omega (arith, w .start) in
+    record {
+      start = omega (arith, w .start);
+      end = omega arith;
+      size = size ∙ w .size;
+      elsewhere = rw wide (elsewhere-more (w .elsewhere) (rw place at elsewhere));
+      more = λ book x G v. rw step (more book x (G r (w .start) h) (w .more book x G v));
+    }
 
 -- ---- the whole row
 pub workable-less : {book : Book} {x : Place} {c : Candidates} {next : List Float} {s : Span} {most r : ℕ} → r ≤ most → Workable book x c next s most → Workable book x c next s r
@@ -220,8 +266,8 @@ workable-less h w =
 pub row-none : (book : Book) (x : Place) (levels : List ℤ) (next : List Float) (s : Span) (least at : ℕ) (row : List Float) (choices : List ℕ) → RowIs book x levels next s least at 0 row choices
 row-none book x levels next s least at row choices = record { entry = λ i h. absurd (omega arith) }
 
-pub held-none : (book : Book) (x : Place) (levels : List ℤ) (l : Locals) → Held book x levels 14850 l
-held-none book x levels l = record { located = λ h. absurd (omega arith) }
+pub coding-of : {book : Book} {x : Place} {c : Candidates} {next : List Float} {s : Span} {most : ℕ} → Workable book x c next s most → Coding x most
+coding-of w = record { covers = w .covers; coded = w .coded; left = w .left; offset = w .offset }
 
 -- the counts from `least` up to r, r not included, are done
 pub record SoFar (book : Book) (x : Place) (levels : List ℤ) (next : List Float) (s : Span) (at least most r : ℕ) (row row' : List Float) (choices choices' : List ℕ) : Type 0 where
@@ -243,16 +289,17 @@ so-far-none book x levels next s at least most row choices h =
       done = rw nothing (row-none book x levels next s least at row choices);
     }
 
-pub so-far-more : {book : Book} {x : Place} {levels : List ℤ} {next : List Float} {s : Span} {at least most r : ℕ} {row row' row'' : List Float} {choices choices' choices'' : List ℕ}
-    → r ≤ most → SoFar book x levels next s at least most r row row' choices choices' → length row'' ≡ length row' → Elsewhere (at + 2 * (r - least)) 2 choices' choices''
-    → (RowIs book x levels next s least at (2 * (r - least)) row' choices' → RowIs book x levels next s least at (2 * (r - least) + 2) row'' choices'')
-    → SoFar book x levels next s at least most (r + 1) row row'' choices choices''
-so-far-more {at = at} {least} {most} {r} h w size elsewhere more =
-    let step : 2 * (r + 1 - least) ≡ 2 * (r - least) + 2 = omega (arith, w .from) in
+-- a run more, up to e
+pub so-far-more : {book : Book} {x : Place} {levels : List ℤ} {next : List Float} {s : Span} {at least most r e : ℕ} {row row' row'' : List Float} {choices choices' choices'' : List ℕ}
+    → r ≤ e → e ≤ most → SoFar book x levels next s at least most r row row' choices choices' → length row'' ≡ length row' → Elsewhere (at + 2 * (r - least)) (2 * (e + 1 - r)) choices' choices''
+    → (RowIs book x levels next s least at (2 * (r - least)) row' choices' → RowIs book x levels next s least at (2 * (e + 1 - least)) row'' choices'')
+    → SoFar book x levels next s at least most (e + 1) row row'' choices choices''
+so-far-more {at = at} {least} {most} {r} {e} h k w size elsewhere more =
+    let step : 2 * (e + 1 - least) ≡ 2 * (r - least) + 2 * (e + 1 - r) = omega (arith, w .from) in
     record {
       from = omega (arith, w .from);
       upto = omega arith;
       size = size ∙ w .size;
       elsewhere = rw step (elsewhere-more (w .elsewhere) elsewhere);
-      done = rw step (more (w .done));
+      done = more (w .done);
     }

@@ -12,9 +12,6 @@ pub use Rattle.steps.specs.Plan.{listed, Usable, Each}
 use Rattle.least_cost.specs.Position.{nz}
 use Rattle.least_cost.specs.Search.{least, holder, nonzeros, hasZero}
 use Rattle.least_cost.specs.Factored.{runnerUp}
-use Rattle.prices.specs.Book.{Book}
-use Rattle.steps.specs.Place.{localIn}
-use Rattle.steps.specs.declared.Place.{Place}
 use Rattle.trellis_row.specs.declared.locals.Least.{Least}
 use Rattle.trellis_row.specs.declared.locals.Locals.{Locals}
 
@@ -60,7 +57,3 @@ noted l j level x y =
       «zero_first» = cond zero x (l .«zero_first»);
       «zero_second» = cond zero y (l .«zero_second»);
     }
-
--- l holds the local costs in a context; past the last context, nothing is held
-pub record Held (book : Book) (x : Place) (levels : List ℤ) (context : ℕ) (l : Locals) : Type 0 where
-  pub located : context + 1 < 14850 → Located (localIn book x context 0) (localIn book x context 1) levels l

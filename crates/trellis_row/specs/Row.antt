@@ -16,8 +16,9 @@ use Rattle.prices.specs.Book.{Book}
 use Rattle.prices.specs.Checks.{bookRefusal}
 use Rattle.steps.specs.Place.{localAt}
 use Rattle.steps.specs.declared.Place.{Place}
-use Rattle.trellis_row.specs.Locals.{listed, Usable}
-use Rattle.trellis_row.specs.Chosen.{stateCost, stateLevel}
+use Rattle.trellis_row.specs.Locals.{listed, Usable, Located}
+use Rattle.trellis_row.specs.Chosen.{stateCost, stateLevel, ZeroAt}
+use Rattle.trellis_row.specs.declared.locals.Locals.{Locals}
 use Rattle.trellis_row.specs.declared.row.Span.{Span}
 
 -- what follows where r nonzero levels come after a position and `prev` is p: the next row's cost, where r lies in the span that may be read
@@ -58,6 +59,13 @@ pub record Elsewhere (at n : ℕ) (before after : List ℕ) : Type 0 where
   pub ahead : (j : ℕ) → j < at → getD after j 0 ≡ getD before j 0
   pub behind : (j : ℕ) → at + n ≤ j → getD after j 0 ≡ getD before j 0
 
+-- the contexts of a place exist for every count up to `most`
+pub record Coding (x : Place) (most : ℕ) : Type 0 where
+  pub covers : Covered (x .covered) (x .log2)
+  pub coded : x .covered ≤ x .k
+  pub left : most + x .k ≤ 64 * x .covered
+  pub offset : x .offset + 457 < 14850
+
 -- what a row is worked out from: a book that passed, candidates, contexts that exist for every count up to `most`, and costs throughout
 pub record Workable (book : Book) (x : Place) (c : Candidates) (next : List Float) (s : Span) (most : ℕ) : Type 0 where
   pub priced : bookRefusal book ≡ 0
@@ -70,3 +78,10 @@ pub record Workable (book : Book) (x : Place) (c : Candidates) (next : List Floa
   pub starts : s .base ≤ s .from
   pub room : s .from ≤ s .upto → 2 * (s .upto - s .base) + 1 < length next
   pub tails : (r p : ℕ) → s .from ≤ r → r ≤ s .upto → p ≤ 1 → T (cost (getD next (2 * (r - s .base) + p) nan))
+
+-- what a count's two states are worked out from: the local costs in its context, and the index of 0 among the candidates
+pub record Ready (book : Book) (x : Place) (c : Candidates) (next : List Float) (s : Span) (l : Locals) (zero r : ℕ) : Type 0 where
+  pub work : Workable book x c next s r
+  pub located : Located (localAt book x r 0) (localAt book x r 1) (listed c) l
+  pub zero-at : ZeroAt (listed c) zero
+  pub zero-none : hasZero (listed c) ≡ false → zero ≡ 255

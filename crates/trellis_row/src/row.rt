@@ -14,13 +14,12 @@ ghost use lib.Dec.{T};
 ghost use lib.Ieee.{Float, inf, lt};
 ghost use mathlib.Core.List.{List·Memᴰ};
 ghost use Rattle.costs.specs.Cost.{cost as isCost};
-ghost use Rattle.prices.specs.Checks.{bookRefusal};
 ghost use Rattle.least_cost.specs.Search.{hasZero};
-ghost use Rattle.prices.specs.Book.{bookOf};
-ghost use Rattle.steps.specs.Place.{localIn, localAt, contextAt, distortionAt};
-ghost use Rattle.trellis_row.specs.Locals.{listed, Usable, Each, Located, Held};
+ghost use Rattle.prices.specs.Book.{Book, bookOf};
+ghost use Rattle.steps.specs.Place.{contextAt};
+ghost use Rattle.trellis_row.specs.Locals.{listed, Usable, Located};
 ghost use Rattle.trellis_row.specs.Chosen.{ZeroAt, Settled};
-ghost use Rattle.trellis_row.specs.Row.{tailAt, nonzeroTail, zeroTail, RowIs, Elsewhere, Workable};
+ghost use Rattle.trellis_row.specs.Row.{tailAt, nonzeroTail, RowIs, Elsewhere, Coding, Workable, Ready};
 
 // The counts that may be read of the next row: from `from` up to `upto`, the row's first count being `base`.
 pub struct Span {
@@ -70,45 +69,6 @@ fn zero_tail(next: &[f32], span: Span, r: usize, zero: u8) -> f32
     tail_at(next, span, r, 0)
 }
 
-// The locals of a context: those at hand where the context is theirs.
-fn locals_for(
-    clusters: u32,
-    map: &[u8],
-    configs: &[u8],
-    symbols: &[f32],
-    ready: &[f32],
-    place: Place,
-    candidates: Candidates,
-    distortion: [f32; 5],
-    held: usize,
-    at_hand: Locals,
-    context: usize,
-) -> Locals
-    requires { ⌜ bookRefusal (bookOf clusters (now map) (now configs) (now symbols) (now ready)) ≡ 0 ⌝ }
-    requires { ⌜ context + 1 < 14850 ⌝ }
-    requires { ⌜ Usable candidates ⌝ }
-    requires { ⌜ Each (distortionAt place) (listed candidates) distortion ⌝ }
-    requires { ⌜ Held (bookOf clusters (now map) (now configs) (now symbols) (now ready)) place (listed candidates) held «at_hand» ⌝ }
-    ensures { λ r. ⌜ Located (localIn (bookOf clusters (now (map .entry)) (now (configs .entry)) (now (symbols .entry)) (now (ready .entry))) place context 0)
-        (localIn (bookOf clusters (now (map .entry)) (now (configs .entry)) (now (symbols .entry)) (now (ready .entry))) place context 1)
-        (listed candidates) r ⌝ }
-{
-    if context == held {
-        return at_hand;
-    }
-    locals::locals_in(
-        clusters,
-        map,
-        configs,
-        symbols,
-        ready,
-        place,
-        candidates,
-        distortion,
-        context,
-    )
-}
-
 // The two states of a count, what follows at hand.
 fn settle(
     candidates: Candidates,
@@ -146,12 +106,6 @@ fn settle(
             zero_tail,
         ),
     }
-}
-
-// The locals at hand, and their context; a context of 14,850 stands for none.
-pub struct Cache {
-    pub context: usize,
-    pub locals: Locals,
 }
 
 pub fn write_pair(current: &mut [f32], choices: &mut [u8], i: usize, at: usize, pair: States)
@@ -196,14 +150,8 @@ pub fn unreachable() -> States
 
 // The two states of count `r`, written behind those of the counts from `least` on.
 fn row_state(
-    clusters: u32,
-    map: &[u8],
-    configs: &[u8],
-    symbols: &[f32],
-    ready: &[f32],
-    place: Place,
     candidates: Candidates,
-    distortion: [f32; 5],
+    locals: Locals,
     zero: u8,
     next: &[f32],
     span: Span,
@@ -212,41 +160,23 @@ fn row_state(
     at: usize,
     least: usize,
     r: usize,
-    cache: Cache,
-) -> Cache
-    requires { ⌜ Workable (bookOf clusters (now map) (now configs) (now symbols) (now ready)) place candidates (now next) span r ⌝ }
-    requires { ⌜ Each (distortionAt place) (listed candidates) distortion ⌝ }
-    requires { ⌜ ZeroAt (listed candidates) zero ⌝ }
-    requires { ⌜ (hasZero (listed candidates) ≡ false → zero ≡ 255) ⌝ }
-    requires { ⌜ Held (bookOf clusters (now map) (now configs) (now symbols) (now ready)) place (listed candidates) (cache .context) (cache .locals) ⌝ }
+)
+    requires { ⌜ Usable candidates ⌝ }
+    requires { ⌜ (span .base ≤ span .from) × (span .from ≤ span .upto → 2 * (span .upto - span .base) + 1 < length (now next)) ⌝ }
     requires { ⌜ (least ≤ r) × ((2 * (r - least) + 1 < length (now current)) × (at + 2 * (r - least) + 1 < length (now choices))) ⌝ }
-    ensures { λ s. ⌜ Held (bookOf clusters (now (map .entry)) (now (configs .entry)) (now (symbols .entry)) (now (ready .entry))) place (listed candidates) (s .context) (s .locals) ⌝ }
-    ensures { λ s. ⌜ length (now (current .exit)) ≡ length (now (current .entry)) ⌝ }
-    ensures { λ s. ⌜ Elsewhere (at + 2 * (r - least)) 2 (now (choices .entry)) (now (choices .exit)) ⌝ }
-    ensures { λ s. ⌜ (RowIs (bookOf clusters (now (map .entry)) (now (configs .entry)) (now (symbols .entry)) (now (ready .entry))) place (listed candidates) (now (next .entry)) span least at (2 * (r - least)) (now (current .entry)) (now (choices .entry))
-        → RowIs (bookOf clusters (now (map .entry)) (now (configs .entry)) (now (symbols .entry)) (now (ready .entry))) place (listed candidates) (now (next .entry)) span least at (2 * (r - least) + 2) (now (current .exit)) (now (choices .exit))) ⌝ }
+    ensures { λ _. ⌜ length (now (current .exit)) ≡ length (now (current .entry)) ⌝ }
+    ensures { λ _. ⌜ Elsewhere (at + 2 * (r - least)) 2 (now (choices .entry)) (now (choices .exit)) ⌝ }
+    ensures { λ _. ⌜ ((book : Book) (x : Place) → Ready book x candidates (now (next .entry)) span locals zero r
+        → RowIs book x (listed candidates) (now (next .entry)) span least at (2 * (r - least)) (now (current .entry)) (now (choices .entry))
+        → RowIs book x (listed candidates) (now (next .entry)) span least at (2 * (r - least) + 2) (now (current .exit)) (now (choices .exit))) ⌝ }
 {
     let x = nonzero_tail(next, span, r);
     let z = zero_tail(next, span, r, zero);
     let i = 2 * (r - least);
     if infinite(x, z) {
         write_pair(current, choices, i, at, unreachable());
-        return cache;
+        return;
     }
-    let context = place.context(r);
-    let locals = locals_for(
-        clusters,
-        map,
-        configs,
-        symbols,
-        ready,
-        place,
-        candidates,
-        distortion,
-        cache.context,
-        cache.locals,
-        context,
-    );
     write_pair(
         current,
         choices,
@@ -254,10 +184,68 @@ fn row_state(
         at,
         settle(candidates, locals, zero, x, z),
     );
-    Cache { context, locals }
 }
 
-// The states of the counts from `least` to `most`: their costs from the front of `current`, their choices from `at` on.
+// The last count, up to `most`, of those from `from` on that share its context.
+pub fn run_end(place: Place, context: usize, from: usize, most: usize) -> usize
+    requires { ⌜ Coding place most ⌝ }
+    requires { ⌜ (from ≤ most) × (context ≡ contextAt place from) ⌝ }
+    ensures { λ r. ⌜ (from ≤ r) × ((r ≤ most) × ((n : ℕ) → from ≤ n → n ≤ r → contextAt place n ≡ context)) ⌝ }
+{
+    let mut end = from;
+    while end < most {
+        if place.context(end + 1) != context {
+            return end;
+        }
+        end += 1;
+    }
+    end
+}
+
+// The states of the counts from `from` to `upto`, which share their local costs.
+fn fill_run(
+    candidates: Candidates,
+    locals: Locals,
+    zero: u8,
+    next: &[f32],
+    span: Span,
+    current: &mut [f32],
+    choices: &mut [u8],
+    at: usize,
+    least: usize,
+    from: usize,
+    upto: usize,
+)
+    requires { ⌜ Usable candidates ⌝ }
+    requires { ⌜ (span .base ≤ span .from) × (span .from ≤ span .upto → 2 * (span .upto - span .base) + 1 < length (now next)) ⌝ }
+    requires { ⌜ (least ≤ from) × ((from ≤ upto) × (upto ≤ 131072)) ⌝ }
+    requires { ⌜ (2 * (upto - least) + 1 < length (now current)) × (at + 2 * (upto - least) + 1 < length (now choices)) ⌝ }
+    ensures { λ _. ⌜ length (now (current .exit)) ≡ length (now (current .entry)) ⌝ }
+    ensures { λ _. ⌜ Elsewhere (at + 2 * (from - least)) (2 * (upto + 1 - from)) (now (choices .entry)) (now (choices .exit)) ⌝ }
+    ensures { λ _. ⌜ ((book : Book) (x : Place) → ((r : ℕ) → from ≤ r → r ≤ upto → Ready book x candidates (now (next .entry)) span locals zero r)
+        → RowIs book x (listed candidates) (now (next .entry)) span least at (2 * (from - least)) (now (current .entry)) (now (choices .entry))
+        → RowIs book x (listed candidates) (now (next .entry)) span least at (2 * (upto + 1 - least)) (now (current .exit)) (now (choices .exit))) ⌝ }
+{
+    let mut r = from;
+    while r <= upto {
+        row_state(
+            candidates,
+            locals,
+            zero,
+            next,
+            span,
+            current,
+            choices,
+            at,
+            least,
+            r,
+        );
+        r += 1;
+    }
+}
+
+// The states of the counts from `least` to `most`: their costs from the front of `current`, their choices from `at` on. Counts that
+// share a context share their local costs.
 pub fn fill_row(
     clusters: u32,
     map: &[u8],
@@ -282,13 +270,10 @@ pub fn fill_row(
 {
     let distortion = steps::reading::distortions(place, candidates);
     let zero = chosen::zero_index(candidates);
-    let mut cache = Cache {
-        context: 14850,
-        locals: Locals::none(),
-    };
     let mut r = least;
     while r <= most {
-        cache = row_state(
+        let context = place.context(r);
+        let locals = locals::locals_in(
             clusters,
             map,
             configs,
@@ -297,6 +282,12 @@ pub fn fill_row(
             place,
             candidates,
             distortion,
+            context,
+        );
+        let end = run_end(place, context, r, most);
+        fill_run(
+            candidates,
+            locals,
             zero,
             next,
             span,
@@ -305,8 +296,8 @@ pub fn fill_row(
             at,
             least,
             r,
-            cache,
+            end,
         );
-        r += 1;
+        r = end + 1;
     }
 }

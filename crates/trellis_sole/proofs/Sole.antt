@@ -9,30 +9,28 @@ use borrow.Author.Tests.{eqb-true, eqb-false}
 use lib.IntN.{ℤ, pos}
 use lib.Dec.{T, eqb, lit<}
 use lib.ListN.{length, getD, take}
-use lib.Ieee.{Float, inf, lt, add, binary32}
+use lib.Ieee.{Float, fin, inf, lt, add, binary32}
+use lib.Ieee.Fits.{mul-fits}
 use lib.Ieee.Scale.{finite}
-use mir.Syntax.{w32}
-use mir.Val.{ofZ, toZ}
-use Rattle.bias.specs.Level.{isLevel}
 use Rattle.candidates.specs.declared.Candidates.{Candidates}
 use Rattle.costs.specs.Cost.{cost}
 use Rattle.costs.proofs.Order.{infinite, lt-inf, inf-lt}
-use Rattle.costs.proofs.Sum.{add-cost, add-inf}
+use Rattle.costs.proofs.Sum.{add-cost, add-inf, add-zero}
 use Rattle.least_cost.specs.Position.{nz}
 use Rattle.least_cost.specs.Search.{least, holder, nonzeros, hasZero}
 use Rattle.trellis_row.proofs.Noting.{zero-is}
 use Rattle.prices.specs.Book.{Book}
 use Rattle.prices.specs.declared.Pair.{Pair}
-use Rattle.steps.specs.Place.{contextAt, localAt}
+use Rattle.block.specs.Cost.{distortionOf}
+use Rattle.steps.specs.Place.{distortionAt, contextAt, ratedIn, localIn, localAt}
 use Rattle.steps.specs.Plan.{listed, Usable}
 use Rattle.steps.specs.declared.Place.{Place}
-use Rattle.steps.proofs.Zero.{level-back}
 use Rattle.trellis_row.specs.Chosen.{with, stateCost, stateLevel, nonzeroCost, zeroCost, Settled}
 use Rattle.trellis_row.specs.Row.{tailAt, nonzeroTail, zeroTail, Workable}
 use Rattle.trellis_row.specs.declared.row.Span.{Span}
 use Rattle.trellis_row.specs.declared.row.States.{States}
 use Rattle.trellis_row.proofs.Rows.{not-below, nonzero-tail-cost, zero-tail-cost}
-use Rattle.trellis_sole.specs.Sole.{soleTail, soleStates, LocalHeld}
+use Rattle.trellis_sole.specs.Sole.{soleTail, soleStates, tokenIn, TokenIs, SoleReady}
 
 -- the list of one candidate
 one-of : (levels : List ℤ) → length levels ≡ 5 → take 1 levels ≡ getD levels 0 (pos 0) ∷ []
@@ -41,9 +39,6 @@ one-of (q ∷ qs) e = refl
 
 pub listed-one : {c : Candidates} → Usable c → c .count ≡ 1 → listed c ≡ getD (c .levels) 0 (pos 0) ∷ []
 listed-one {c} u e = ap (λ (n : ℕ). take n (c .levels)) e ∙ one-of (c .levels) (u .five)
-
-pub none-held : (book : Book) (x : Place) (q : ℤ) (p : Pair) → LocalHeld book x q 14850 p
-none-held book x q p = record { first = λ h. absurd (omega arith); second = λ h. absurd (omega arith) }
 
 below-inf : (x : Float) → T (cost x) → cond (lt x (inf false)) x (inf false) ≡ x
 below-inf x C = go (lt x (inf false)) refl
@@ -118,62 +113,64 @@ sole-tail q next s r = go (eqb (nz q) 0)
     go false = refl
 
 -- ---- the states of count r
-module _ {book : Book} {x : Place} {c : Candidates} {next : List Float} {s : Span} {r : ℕ} (w : Workable book x c next s r) (one : c .count ≡ 1) where
-  listed-here : Mem (getD (c .levels) 0 (pos 0)) (listed c)
-  listed-here = rw (listed-one (w .usable) one) (here refl)
+-- the sum of distortion and token is the local cost: where there is no token, 0.0 is added
+pub sum-is : (book : Book) (x : Place) (r p : ℕ) (q : ℤ) {d t : Float} → T (cost (localAt book x r p q)) → d ≡ distortionAt x q → t ≡ tokenIn book x (contextAt x r) p q
+    → add binary32 d t ≡ localAt book x r p q
+unfolding localAt localIn tokenIn distortionAt distortionOf
+sum-is book x r p q {d} {t} C e f = rw (e, f) (go (eqb (contextAt x r) 0) C)
+  where
+    sum : Float
+    sum = add binary32 (distortionAt x q) (ratedIn book x (contextAt x r) p q)
 
-  module _ {p : ℕ} (P : p ≤ 1) {tail : Float} (e : tail ≡ soleTail (getD (c .levels) 0 (pos 0)) next s r) where
-    tail-is : tail ≡ cond (eqb (nz (getD (c .levels) 0 (pos 0))) 0) (zeroTail (getD (c .levels) 0 (pos 0) ∷ []) next s r) (nonzeroTail next s r)
-    tail-is = e ∙ sole-tail (getD (c .levels) 0 (pos 0)) next s r
+    go : (b : Bool) → T (cost (cond b (distortionAt x q) sum)) → add binary32 (distortionAt x q) (cond b (fin false 0 (pos 0)) (ratedIn book x (contextAt x r) p q)) ≡ cond b (distortionAt x q) sum
+    go true c = add-zero binary32 (distortionAt x q) c (mul-fits binary32 _ _)
+    go false c = refl
 
-    pub sole-state : {v a : Float} {m : ℕ} → v ≡ localAt book x r p (getD (c .levels) 0 (pos 0)) → (a ≡ add binary32 v tail) × (m ≡ 0)
-        → Settled (localAt book x r p) (nonzeroTail next s r) (zeroTail (listed c) next s r) (listed c) (record { cost = a; choice = m })
+module _ {book : Book} {x : Place} {next : List Float} {s : Span} {q : ℤ} {distortion : Float} {token : Pair} {r : ℕ} (w : SoleReady book x next s q distortion token r) where
+  module _ (p : ℕ) (P : p ≤ 1) {tail : Float} (e : tail ≡ soleTail q next s r) where
+    tail-is : tail ≡ cond (eqb (nz q) 0) (zeroTail (q ∷ []) next s r) (nonzeroTail next s r)
+    tail-is = e ∙ sole-tail q next s r
+
+    pub sole-state : {v a : Float} {m : ℕ} → v ≡ tokenIn book x (contextAt x r) p q → (a ≡ add binary32 (add binary32 distortion v) tail) × (m ≡ 0)
+        → Settled (localAt book x r p) (nonzeroTail next s r) (zeroTail (q ∷ []) next s r) (q ∷ []) (record { cost = a; choice = m })
     sole-state d f =
-        rw (listed-one (w .usable) one, f .0, f .1, d, tail-is)
-        (settled-sole (localAt book x r p) (getD (c .levels) 0 (pos 0)) _ _ (w .locals r p _ (le-refl r) P listed-here) (nonzero-tail-cost w r) (zero-tail-cost w _ r))
+        rw (f .0, f .1, sum-is book x r p q (w .local p P) (w .distortion-is) d, tail-is)
+        (settled-sole (localAt book x r p) q _ _ (w .local p P) (w .nonzero-follows) (w .zero-follows))
 
     pub sole-dead : {v : Float} (choice : ℕ) → tail ≡ inf false → v ≡ inf false
-        → Settled (localAt book x r p) (nonzeroTail next s r) (zeroTail (listed c) next s r) (listed c) (record { cost = v; choice = choice })
-    sole-dead choice f g =
-        rw (listed-one (w .usable) one, g)
-        (settled-dead (localAt book x r p) (getD (c .levels) 0 (pos 0)) _ _ (w .locals r p _ (le-refl r) P listed-here) (nonzero-tail-cost w r) (zero-tail-cost w _ r) choice (sym tail-is ∙ f))
+        → Settled (localAt book x r p) (nonzeroTail next s r) (zeroTail (q ∷ []) next s r) (q ∷ []) (record { cost = v; choice = choice })
+    sole-dead choice f g = rw g (settled-dead (localAt book x r p) q _ _ (w .local p P) (w .nonzero-follows) (w .zero-follows) choice (sym tail-is ∙ f))
 
   -- what follows is a cost
-  pub tail-infinite : {tail y : Float} → tail ≡ soleTail (getD (c .levels) 0 (pos 0)) next s r → y ≡ inf false → lt tail y ≡ false → tail ≡ inf false
-  tail-infinite {tail} {y} e i t = not-below tail (subst⁻¹ (λ (z : Float). T (cost z)) (e ∙ sole-tail (getD (c .levels) 0 (pos 0)) next s r) (go (eqb (nz (getD (c .levels) 0 (pos 0))) 0))) (rw i at t)
+  pub tail-infinite : {tail y : Float} → tail ≡ soleTail q next s r → y ≡ inf false → lt tail y ≡ false → tail ≡ inf false
+  tail-infinite {tail} {y} e i t = not-below tail (subst⁻¹ (λ (z : Float). T (cost z)) (e ∙ sole-tail q next s r) (go (eqb (nz q) 0))) (rw i at t)
     where
-      go : (b : Bool) → T (cost (cond b (zeroTail (getD (c .levels) 0 (pos 0) ∷ []) next s r) (nonzeroTail next s r)))
-      go true = zero-tail-cost w _ r
-      go false = nonzero-tail-cost w r
+      go : (b : Bool) → T (cost (cond b (zeroTail (q ∷ []) next s r) (nonzeroTail next s r)))
+      go true = w .zero-follows
+      go false = w .nonzero-follows
 
--- the local costs at hand, by what remains
-module _ {book : Book} {x : Place} {q : ℤ} {context : ℕ} {local : Pair} (r : ℕ) (h : LocalHeld book x q context local) (e : context ≡ contextAt x r) (b : context + 1 < 14850) where
-  pub local-first : local .first ≡ localAt book x r 0 q
-  unfolding localAt
-  local-first = rw e at (h .first b)
+-- the states as written
+pub states-first : {t : States} (d : Float) (token : Pair) (tail : Float) → t ≡ soleStates d token tail → (t .first .cost ≡ add binary32 (add binary32 d (token .first)) tail) × (t .first .choice ≡ 0)
+unfolding soleStates
+states-first d token tail e = (ap (λ (t : States). t .first .cost) e, ap (λ (t : States). t .first .choice) e)
 
-  pub local-second : local .second ≡ localAt book x r 1 q
-  unfolding localAt
-  local-second = rw e at (h .second b)
+pub states-second : {t : States} (d : Float) (token : Pair) (tail : Float) → t ≡ soleStates d token tail → (t .second .cost ≡ add binary32 (add binary32 d (token .second)) tail) × (t .second .choice ≡ 0)
+unfolding soleStates
+states-second d token tail e = (ap (λ (t : States). t .second .cost) e, ap (λ (t : States). t .second .choice) e)
 
--- the level as the code hands it over
+-- ---- the row
 pub count-first : {n : ℕ} → n ≡ 1 → 0 < n
 count-first e = rw e (lit< tt)
 
-pub held-back : {book : Book} {x : Place} {q q' : ℤ} {context : ℕ} {local : Pair} → q' ≡ q → LocalHeld book x q context local → LocalHeld book x q' context local
-held-back {book} {x} {q} {q'} {context} {local} e h = subst⁻¹ (λ (z : ℤ). LocalHeld book x z context local) e h
-
-pub held-forth : {book : Book} {x : Place} {q q' : ℤ} {context : ℕ} {local : Pair} → q' ≡ q → LocalHeld book x q' context local → LocalHeld book x q context local
-held-forth {book} {x} {q} {q'} {context} {local} e h = subst (λ (z : ℤ). LocalHeld book x z context local) e h
-
-pub handed-level : (q : ℤ) → T (isLevel q) → T (isLevel (toZ w32 (ofZ w32 q)))
-handed-level q h = rw (level-back q h) h
-
--- the states as written
-pub states-first : {t : States} (local : Pair) (tail : Float) → t ≡ soleStates local tail → (t .first .cost ≡ add binary32 (local .first) tail) × (t .first .choice ≡ 0)
-unfolding soleStates
-states-first local tail e = (ap (λ (t : States). t .first .cost) e, ap (λ (t : States). t .first .choice) e)
-
-pub states-second : {t : States} (local : Pair) (tail : Float) → t ≡ soleStates local tail → (t .second .cost ≡ add binary32 (local .second) tail) × (t .second .choice ≡ 0)
-unfolding soleStates
-states-second local tail e = (ap (λ (t : States). t .second .cost) e, ap (λ (t : States). t .second .choice) e)
+-- a count of a row that can be worked out
+pub sole-ready : {book : Book} {x : Place} {c : Candidates} {next : List Float} {s : Span} {most : ℕ} (n context : ℕ) {d : Float} {token : Pair} → Workable book x c next s most → c .count ≡ 1 → n ≤ most
+    → contextAt x n ≡ context → d ≡ distortionAt x (getD (c .levels) 0 (pos 0)) → TokenIs book x context (getD (c .levels) 0 (pos 0)) token
+    → SoleReady book x next s (getD (c .levels) 0 (pos 0)) d token n
+sole-ready {book} {x} {c} {next} {s} {most} n context {d} {token} w one h e f t =
+    record {
+      local = λ p P. w .locals n p _ h P (rw (listed-one (w .usable) one) (here refl));
+      nonzero-follows = nonzero-tail-cost w n;
+      zero-follows = zero-tail-cost w _ n;
+      distortion-is = f;
+      token-is = subst⁻¹ (λ (k : ℕ). TokenIs book x k (getD (c .levels) 0 (pos 0)) token) e t;
+    }

@@ -7,23 +7,16 @@ use trellis_row::row;
 use trellis_row::row::Span;
 use trellis_row::row::States;
 ghost use mathlib.Core.Path.{_≡_};
-ghost use Prim.Native.Nat.{_+_, _-_, _*_, _<_, _≤_};
+ghost use mathlib.Core.List.{_∷_, []};
+ghost use Prim.Native.Nat.{ℕ, _+_, _-_, _*_, _<_, _≤_};
 ghost use lib.Dec.{T};
-ghost use lib.IntN.{pos};
-ghost use lib.ListN.{length, getD};
+ghost use lib.ListN.{length};
 ghost use Rattle.bias.specs.Level.{isLevel};
-ghost use Rattle.prices.specs.Book.{bookOf};
+ghost use Rattle.prices.specs.Book.{Book, bookOf};
 ghost use Rattle.prices.specs.Checks.{bookRefusal};
-ghost use Rattle.steps.specs.Place.{localIn, distortionAt};
 ghost use Rattle.trellis_row.specs.Locals.{listed};
 ghost use Rattle.trellis_row.specs.Row.{RowIs, Elsewhere, Workable};
-ghost use Rattle.trellis_sole.specs.Sole.{soleTail, soleStates, LocalHeld};
-
-// The local costs at hand, and their context; a context of 14,850 stands for none.
-pub struct Cache {
-    pub context: usize,
-    pub local: Pair,
-}
+ghost use Rattle.trellis_sole.specs.Sole.{soleTail, soleStates, TokenIs, SoleReady};
 
 // What follows the level where r remain.
 fn tail_of(next: &[f32], span: Span, r: usize, level: i32) -> f32
@@ -36,66 +29,52 @@ fn tail_of(next: &[f32], span: Span, r: usize, level: i32) -> f32
     row::nonzero_tail(next, span, r)
 }
 
-fn states_of(local: Pair, tail: f32) -> States
-    ensures { λ r. ⌜ r ≡ soleStates local tail ⌝ }
+// The two states of a count: distortion and token first, as in every sum of a local cost, then what follows.
+fn states_of(distortion: f32, token: Pair, tail: f32) -> States
+    ensures { λ r. ⌜ r ≡ soleStates distortion token tail ⌝ }
 {
     States {
         first: Chosen {
-            cost: local.first + tail,
+            cost: distortion + token.first + tail,
             choice: 0,
         },
         second: Chosen {
-            cost: local.second + tail,
+            cost: distortion + token.second + tail,
             choice: 0,
         },
     }
 }
 
-// The local costs in a context: those at hand where the context is theirs.
-fn local_for(
+// The token's rated prices; none where nothing remains.
+fn token_of(
     clusters: u32,
     map: &[u8],
     configs: &[u8],
     symbols: &[f32],
     ready: &[f32],
     place: Place,
-    level: i32,
-    distortion: f32,
-    cache: Cache,
     context: usize,
+    level: i32,
 ) -> Pair
     requires { ⌜ bookRefusal (bookOf clusters (now map) (now configs) (now symbols) (now ready)) ≡ 0 ⌝ }
     requires { ⌜ context + 1 < 14850 ⌝ }
     requires { ⌜ T (isLevel level) ⌝ }
-    requires { ⌜ distortion ≡ distortionAt place level ⌝ }
-    requires { ⌜ LocalHeld (bookOf clusters (now map) (now configs) (now symbols) (now ready)) place level (cache .context) (cache .local) ⌝ }
-    ensures { λ r. ⌜ LocalHeld (bookOf clusters (now (map .entry)) (now (configs .entry)) (now (symbols .entry)) (now (ready .entry))) place level context r ⌝ }
+    ensures { λ r. ⌜ TokenIs (bookOf clusters (now (map .entry)) (now (configs .entry)) (now (symbols .entry)) (now (ready .entry))) place context level r ⌝ }
 {
-    if context == cache.context {
-        return cache.local;
+    if context == 0 {
+        return Pair {
+            first: 0.0f32,
+            second: 0.0f32,
+        };
     }
-    place.local_pair(
-        clusters,
-        map,
-        configs,
-        symbols,
-        ready,
-        context,
-        level,
-        distortion,
-    )
+    place.rated_pair(clusters, map, configs, symbols, ready, context, level)
 }
 
 // The two states of count `r`, written behind those of the counts from `least` on.
 fn row_state(
-    clusters: u32,
-    map: &[u8],
-    configs: &[u8],
-    symbols: &[f32],
-    ready: &[f32],
-    place: Place,
-    candidates: Candidates,
+    level: i32,
     distortion: f32,
+    token: Pair,
     next: &[f32],
     span: Span,
     current: &mut [f32],
@@ -103,41 +82,65 @@ fn row_state(
     at: usize,
     least: usize,
     r: usize,
-    cache: Cache,
-) -> Cache
-    requires { ⌜ Workable (bookOf clusters (now map) (now configs) (now symbols) (now ready)) place candidates (now next) span r ⌝ }
-    requires { ⌜ candidates .count ≡ 1 ⌝ }
-    requires { ⌜ distortion ≡ distortionAt place (getD (candidates .levels) 0 (pos 0)) ⌝ }
-    requires { ⌜ LocalHeld (bookOf clusters (now map) (now configs) (now symbols) (now ready)) place (getD (candidates .levels) 0 (pos 0)) (cache .context) (cache .local) ⌝ }
+)
+    requires { ⌜ (span .base ≤ span .from) × (span .from ≤ span .upto → 2 * (span .upto - span .base) + 1 < length (now next)) ⌝ }
     requires { ⌜ (least ≤ r) × ((2 * (r - least) + 1 < length (now current)) × (at + 2 * (r - least) + 1 < length (now choices))) ⌝ }
-    ensures { λ s. ⌜ LocalHeld (bookOf clusters (now (map .entry)) (now (configs .entry)) (now (symbols .entry)) (now (ready .entry))) place (getD (candidates .levels) 0 (pos 0)) (s .context) (s .local) ⌝ }
-    ensures { λ s. ⌜ length (now (current .exit)) ≡ length (now (current .entry)) ⌝ }
-    ensures { λ s. ⌜ Elsewhere (at + 2 * (r - least)) 2 (now (choices .entry)) (now (choices .exit)) ⌝ }
-    ensures { λ s. ⌜ (RowIs (bookOf clusters (now (map .entry)) (now (configs .entry)) (now (symbols .entry)) (now (ready .entry))) place (listed candidates) (now (next .entry)) span least at (2 * (r - least)) (now (current .entry)) (now (choices .entry))
-        → RowIs (bookOf clusters (now (map .entry)) (now (configs .entry)) (now (symbols .entry)) (now (ready .entry))) place (listed candidates) (now (next .entry)) span least at (2 * (r - least) + 2) (now (current .exit)) (now (choices .exit))) ⌝ }
+    requires { ⌜ T (isLevel level) ⌝ }
+    ensures { λ _. ⌜ length (now (current .exit)) ≡ length (now (current .entry)) ⌝ }
+    ensures { λ _. ⌜ Elsewhere (at + 2 * (r - least)) 2 (now (choices .entry)) (now (choices .exit)) ⌝ }
+    ensures { λ _. ⌜ ((book : Book) (x : Place) → SoleReady book x (now (next .entry)) span level distortion token r
+        → RowIs book x (level ∷ []) (now (next .entry)) span least at (2 * (r - least)) (now (current .entry)) (now (choices .entry))
+        → RowIs book x (level ∷ []) (now (next .entry)) span least at (2 * (r - least) + 2) (now (current .exit)) (now (choices .exit))) ⌝ }
 {
-    let level = candidates.levels[0];
     let tail = tail_of(next, span, r, level);
     let i = 2 * (r - least);
     if tail < costs::infinity() {
-        let context = place.context(r);
-        let local = local_for(
-            clusters,
-            map,
-            configs,
-            symbols,
-            ready,
-            place,
-            level,
-            distortion,
-            cache,
-            context,
-        );
-        row::write_pair(current, choices, i, at, states_of(local, tail));
-        return Cache { context, local };
+        row::write_pair(current, choices, i, at, states_of(distortion, token, tail));
+        return;
     }
     row::write_pair(current, choices, i, at, row::unreachable());
-    cache
+}
+
+// The states of the counts from `from` to `upto`, which share the token's prices.
+fn fill_run(
+    level: i32,
+    distortion: f32,
+    token: Pair,
+    next: &[f32],
+    span: Span,
+    current: &mut [f32],
+    choices: &mut [u8],
+    at: usize,
+    least: usize,
+    from: usize,
+    upto: usize,
+)
+    requires { ⌜ (span .base ≤ span .from) × (span .from ≤ span .upto → 2 * (span .upto - span .base) + 1 < length (now next)) ⌝ }
+    requires { ⌜ (least ≤ from) × ((from ≤ upto) × (upto ≤ 131072)) ⌝ }
+    requires { ⌜ (2 * (upto - least) + 1 < length (now current)) × (at + 2 * (upto - least) + 1 < length (now choices)) ⌝ }
+    requires { ⌜ T (isLevel level) ⌝ }
+    ensures { λ _. ⌜ length (now (current .exit)) ≡ length (now (current .entry)) ⌝ }
+    ensures { λ _. ⌜ Elsewhere (at + 2 * (from - least)) (2 * (upto + 1 - from)) (now (choices .entry)) (now (choices .exit)) ⌝ }
+    ensures { λ _. ⌜ ((book : Book) (x : Place) → ((r : ℕ) → from ≤ r → r ≤ upto → SoleReady book x (now (next .entry)) span level distortion token r)
+        → RowIs book x (level ∷ []) (now (next .entry)) span least at (2 * (from - least)) (now (current .entry)) (now (choices .entry))
+        → RowIs book x (level ∷ []) (now (next .entry)) span least at (2 * (upto + 1 - least)) (now (current .exit)) (now (choices .exit))) ⌝ }
+{
+    let mut r = from;
+    while r <= upto {
+        row_state(
+            level,
+            distortion,
+            token,
+            next,
+            span,
+            current,
+            choices,
+            at,
+            least,
+            r,
+        );
+        r += 1;
+    }
 }
 
 // The states of the counts from `least` to `most` of a position with one candidate.
@@ -164,25 +167,26 @@ fn fill_sole(
     ensures { λ s. ⌜ Elsewhere at (2 * (most + 1 - least)) (now (choices .entry)) (now (choices .exit)) ⌝ }
     ensures { λ s. ⌜ RowIs (bookOf clusters (now (map .entry)) (now (configs .entry)) (now (symbols .entry)) (now (ready .entry))) place (listed candidates) (now (next .entry)) span least at (2 * (most + 1 - least)) (now (current .exit)) (now (choices .exit)) ⌝ }
 {
-    let distortion = place.distortion(candidates.levels[0]);
-    let mut cache = Cache {
-        context: 14850,
-        local: Pair {
-            first: 0.0f32,
-            second: 0.0f32,
-        },
-    };
+    let level = candidates.levels[0];
+    let distortion = place.distortion(level);
     let mut r = least;
     while r <= most {
-        cache = row_state(
+        let context = place.context(r);
+        let token = token_of(
             clusters,
             map,
             configs,
             symbols,
             ready,
             place,
-            candidates,
+            context,
+            level,
+        );
+        let end = row::run_end(place, context, r, most);
+        fill_run(
+            level,
             distortion,
+            token,
             next,
             span,
             current,
@@ -190,9 +194,9 @@ fn fill_sole(
             at,
             least,
             r,
-            cache,
+            end,
         );
-        r += 1;
+        r = end + 1;
     }
 }
 

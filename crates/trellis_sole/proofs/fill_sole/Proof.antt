@@ -1,34 +1,29 @@
-use mathlib.Core.Path.{_≡_, ap, _∙_}
-use Prim.Native.Nat.{ℕ, _+_, _-_}
-use native.Mathlib.Omega.{arith}
-use lib.IntN.{pos}
-use lib.ListN.{getD}
+use Rattle.trellis_row.proofs.Rows.{SoFar, so-far-none, so-far-more, workable-less, coding-of}
+use Rattle.trellis_sole.proofs.Sole.{count-first, listed-one, sole-ready}
 use Rattle.ac_context.proofs.Bounds.{covered-most}
-use Rattle.prices.specs.Book.{bookOf}
+use Rattle.steps.proofs.Listed.{usable-back, usable-level}
 use Rattle.steps.specs.Place.{distortionAt}
 use Rattle.steps.specs.Plan.{listed}
-use Rattle.steps.proofs.Listed.{usable-back, usable-level}
-use Rattle.trellis_row.proofs.Rows.{SoFar, so-far-none, so-far-more, workable-less}
-use Rattle.trellis_sole.specs.Sole.{LocalHeld}
-use Rattle.trellis_sole.proofs.Sole.{count-first, none-held}
+use Rattle.prices.specs.Book.{bookOf}
+use native.Mathlib.Omega.{arith}
+use mir.Syntax.{w32}
+use mir.Val.{toZ}
+use mathlib.Core.List.{_∷_, []}
+use mathlib.Core.Path.{_≡_, sym, ap, _∙_}
+use Prim.Native.Nat.{ℕ, _+_, _-_, _≤_}
 use borrow.Author.Needs.{needs}
 use Rattle.trellis_sole.proofs.fill_sole.Statement.{statement}
 use Rattle.trellis_sole.proofs.fill_sole.Tie as tie
-use Rattle.trellis_sole.proofs.fill_sole.Reads as reads
-use Rattle.trellis_sole.proofs.fill_sole.Lts as lts
-use Rattle.steps.proofs.Place.distortion.Reads as distortion-reads
-use Rattle.trellis_sole.proofs.row_state.Reads as row-state-reads
 
 abbrev Inv-loop : tie.InvT-loop
-Inv-loop clusters map configs symbols ready place next span current₀ choices₀ at least most candidates distortion cache₀ r₀ current choices cache r =
-    SoFar (bookOf clusters map configs symbols ready) place (listed candidates) next span at least most r current₀ current choices₀ choices
-    × LocalHeld (bookOf clusters map configs symbols ready) place (getD (candidates .levels) 0 (pos 0)) (cache .context) (cache .local)
+Inv-loop clusters map configs symbols ready place next span current₀ choices₀ at least most level distortion r₀ current choices r =
+    SoFar (bookOf clusters map configs symbols ready) place (toZ w32 level ∷ []) next span at least most r current₀ current choices₀ choices
 
 abbrev μ-loop : tie.MeasureT-loop
-μ-loop clusters map configs symbols ready place next span current₀ choices₀ at least most candidates distortion cache₀ r₀ current choices cache r = most + 1 - r
+μ-loop clusters map configs symbols ready place next span current₀ choices₀ at least most level distortion r₀ current choices r = most + 1 - r
 
-element-copy-out-distortion : tie.Need-element-copy-out-distortion Inv-loop μ-loop
-element-copy-out-distortion c = search needs
+element-copy-out-level : tie.Need-element-copy-out-level Inv-loop μ-loop
+element-copy-out-level c = search needs
 
 distortion-requires : tie.Need-distortion-requires Inv-loop μ-loop
 distortion-requires c κs =
@@ -36,49 +31,71 @@ distortion-requires c κs =
     usable-level (pre .0 .usable) 0 (count-first (pre .1 .0))
 
 loop-holds : tie.Need-loop-holds Inv-loop μ-loop
-loop-holds c = (so-far-none _ _ _ _ _ _ _ _ _ _ (c .before .before .before .before .before .before .before .before .before .pre .1 .1 .0), none-held _ _ _ _)
+loop-holds c = so-far-none _ _ _ _ _ _ _ _ _ _ (c .before .before .before .before .before .before .before .before .before .pre .1 .1 .0)
 
-row-state-requires : tie.Need-row-state-requires Inv-loop μ-loop
-row-state-requires c κs =
-    let pre = c .before .before .before .before .before .before .before .before .before .before .before .before .before .pre in
-    let inv = c .before .before .before .loop .inv .0 in
-    let here = c .before .before .loop-test .taken in
-    let back = usable-back (pre .0 .usable) 0 (count-first (pre .1 .0)) in (
-      workable-less here (pre .0),
+context-requires : tie.Need-context-requires Inv-loop μ-loop
+context-requires c κs = search needs
+
+token-of-requires : tie.Need-token-of-requires Inv-loop μ-loop
+token-of-requires c κs =
+    let pre = c .before .before .before .before .before .before .before .before .before .before .before .before .pre in
+    (pre .0 .priced, (c .context .ensures .1, usable-level (pre .0 .usable) 0 (count-first (pre .1 .0))))
+
+run-end-requires : tie.Need-run-end-requires Inv-loop μ-loop
+run-end-requires c κs = (coding-of (c .before .before .before .before .before .before .before .before .before .before .before .before .before .pre .0), (c .before .before .loop-test .taken, c .before .context .ensures .0))
+
+fill-run-requires : tie.Need-fill-run-requires Inv-loop μ-loop
+fill-run-requires c κs =
+    let pre = c .before .before .before .before .before .before .before .before .before .before .before .before .before .before .before .before .pre in
+    let work = pre .0 in
+    let inv = c .before .before .before .before .before .before .loop .inv in
+    let end = c .before .before .run-end .ensures in (
+      (work .starts, work .room),
       (
-        pre .1 .0,
+        (inv .from, (end .0, omega (arith, end .1 .0, work .left, covered-most (work .covers)))),
         (
-          c .before .before .before .before .distortion .ensures ∙ ap (distortionAt _) back,
-          (
-            c .before .before .before .loop .inv .1,
-            (inv .from, (omega (arith, pre .1 .1 .1 .0, inv .size, inv .from), omega (arith, pre .1 .1 .1 .1, inv .elsewhere .size, inv .from))),
-          ),
+          (omega (arith, pre .1 .1 .1 .0, inv .size, inv .from, end .0, end .1 .0), omega (arith, pre .1 .1 .1 .1, inv .elsewhere .size, inv .from, end .0, end .1 .0)),
+          usable-level (work .usable) 0 (count-first (pre .1 .0)),
         ),
       ),
     )
 
 add-r : tie.Need-add-r Inv-loop μ-loop
-add-r c = record { fits = omega (arith, c .before .before .before .before .before .before .before .loop-test .taken, c .before .before .before .before .before .before .before .before .before .before .before .before .before .before .before .before .before .before .pre .0 .left, covered-most (c .before .before .before .before .before .before .before .before .before .before .before .before .before .before .before .before .before .before .pre .0 .covers)) }
+add-r c =
+    let work = c .before .before .before .before .before .before .before .before .before .before .before .before .before .before .before .before .before .before .before .before .before .pre .0 in
+    record { fits = omega (arith, c .before .before .before .before .before .before .before .run-end .ensures .1 .0, work .left, covered-most (work .covers)) }
 
 loop-less : tie.Need-loop-less Inv-loop μ-loop
-loop-less c = omega (arith, c .before .before .before .before .before .before .before .loop-test .taken)
+loop-less c =
+    let end = c .before .before .before .before .before .before .before .run-end .ensures in
+    omega (arith, c .before .before .before .before .before .before .before .before .before .before .loop-test .taken, end .0, end .1 .0)
 
 loop-again : tie.Need-loop-again Inv-loop μ-loop
 loop-again c =
-    let call = c .before .before .before .before .row-state .ensures in
-    (so-far-more (c .before .before .before .before .before .before .before .loop-test .taken) (c .before .before .before .before .before .before .before .before .loop .inv .0) (call .1 .0) (call .1 .1 .0) (call .1 .1 .1), call .0)
+    let pre = c .before .before .before .before .before .before .before .before .before .before .before .before .before .before .before .before .before .before .before .before .before .pre in
+    let back = usable-back (pre .0 .usable) 0 (count-first (pre .1 .0)) in
+    let end = c .before .before .before .before .before .before .before .run-end .ensures in
+    let token = rw back at (c .before .before .before .before .before .before .before .before .token-of .ensures) in
+    let distortion = rw back at (c .before .before .before .before .before .before .before .before .before .before .before .before .distortion .ensures) in
+    let call = rw back at (c .before .before .before .before .fill-run .ensures) in
+    let inv = rw back at (c .before .before .before .before .before .before .before .before .before .before .before .loop .inv) in
+    rw back
+    (so-far-more (end .0) (end .1 .0) inv (call .0) (call .1 .0)
+    (call .1 .1 _ _ (λ n low high. sole-ready n _ (pre .0) (pre .1 .0) (omega (arith, high, end .1 .0)) (end .1 .1 n low high) distortion token)))
 
 same-length : tie.Need-same-length Inv-loop μ-loop
-same-length c = c .before .loop .inv .0 .size
+same-length c = c .before .loop .inv .size
 
 same-length-2 : tie.Need-same-length-2 Inv-loop μ-loop
-same-length-2 c = c .before .loop .inv .0 .elsewhere .size
+same-length-2 c = c .before .loop .inv .elsewhere .size
 
 returns : tie.Need-returns Inv-loop μ-loop
 returns c =
-    let inv = c .before .loop .inv .0 in
-    let last : c .before .loop .r ≡ c .before .before .before .before .before .before .before .before .before .before .before .args .most + 1 = omega (arith, inv .upto, c .loop-test .left) in
-    (inv .size, (rw last at (inv .elsewhere), rw last at (inv .done)))
+    let start = c .before .before .before .before .before .before .before .before .before .before .before in
+    let inv = c .before .loop .inv in
+    let last : c .before .loop .r ≡ start .args .most + 1 = omega (arith, inv .upto, c .loop-test .left) in
+    let one = listed-one (start .pre .0 .usable) (start .pre .1 .0) in
+    (inv .size, (rw last at (inv .elsewhere), rw one (rw (last, usable-back (start .pre .0 .usable) 0 (count-first (start .pre .1 .0))) at (inv .done))))
 
 pub fill-sole-spec : {M : Type 1} → statement M
 fill-sole-spec =
@@ -86,10 +103,13 @@ fill-sole-spec =
     (tie.spec
     Inv-loop
     μ-loop
-    element-copy-out-distortion
+    element-copy-out-level
     distortion-requires
     loop-holds
-    row-state-requires
+    context-requires
+    token-of-requires
+    run-end-requires
+    fill-run-requires
     add-r
     loop-less
     loop-again

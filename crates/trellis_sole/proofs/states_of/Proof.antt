@@ -3,8 +3,6 @@ use Rattle.trellis_sole.specs.Sole.{soleStates}
 use borrow.Author.Needs.{needs}
 use Rattle.trellis_sole.proofs.states_of.Statement.{statement}
 use Rattle.trellis_sole.proofs.states_of.Tie as tie
-use Rattle.trellis_sole.proofs.states_of.Reads as reads
-use Rattle.trellis_sole.proofs.states_of.Lts as lts
 
 returns : tie.Need-returns
 unfolding soleStates

@@ -1,0 +1,73 @@
+use Rattle.trellis_row.proofs.Rows.{Ran, ran-none, ran-more}
+use Rattle.trellis_sole.specs.Sole.{SoleReady}
+use Rattle.steps.proofs.Zero.{level-back}
+use mir.Syntax.{w32}
+use mir.Val.{toZ}
+use mathlib.Core.List.{_∷_, []}
+use native.Mathlib.Omega.{arith}
+use mathlib.Core.Path.{_≡_}
+use Prim.Native.Nat.{ℕ, _+_, _-_}
+use borrow.Author.Needs.{needs}
+use Rattle.trellis_sole.proofs.fill_run.Statement.{statement}
+use Rattle.trellis_sole.proofs.fill_run.Tie as tie
+
+abbrev Inv-loop : tie.InvT-loop
+Inv-loop level distortion token next span current₀ choices₀ at least from upto r₀ current choices r =
+    Ran (λ book x n. SoleReady book x next span (toZ w32 level) distortion token n) (toZ w32 level ∷ []) next span at least from upto r current₀ current choices₀ choices
+
+abbrev μ-loop : tie.MeasureT-loop
+μ-loop level distortion token next span current₀ choices₀ at least from upto r₀ current choices r = upto + 1 - r
+
+loop-holds : tie.Need-loop-holds Inv-loop μ-loop
+loop-holds c = ran-none _ _ _ _ _ _ _ _ _ _ (c .before .before .before .pre .1 .0 .1 .0)
+
+row-state-requires : tie.Need-row-state-requires Inv-loop μ-loop
+row-state-requires c κs =
+    let pre = c .before .before .before .before .before .before .before .pre in
+    let inv = c .before .before .before .loop .inv in
+    let here = c .before .before .loop-test .taken in (
+      pre .0,
+      (
+        (omega (arith, inv .start, pre .1 .0 .0), (omega (arith, pre .1 .1 .0 .0, inv .size, inv .start), omega (arith, pre .1 .1 .0 .1, inv .elsewhere .size, inv .start))),
+        rw (level-back _ (pre .1 .1 .1)) (pre .1 .1 .1),
+      ),
+    )
+
+add-r : tie.Need-add-r Inv-loop μ-loop
+add-r c = record { fits = omega (arith, c .before .before .before .before .before .before .before .loop-test .taken, c .before .before .before .before .before .before .before .before .before .before .before .before .pre .1 .0 .1 .1) }
+
+loop-less : tie.Need-loop-less Inv-loop μ-loop
+loop-less c = omega (arith, c .before .before .before .before .before .before .before .loop-test .taken)
+
+loop-again : tie.Need-loop-again Inv-loop μ-loop
+loop-again c =
+    let start = c .before .before .before .before .before .before .before .before .before .before .before .before in
+    let call = c .before .before .before .before .row-state .ensures in
+    ran-more (start .pre .1 .0 .0) (c .before .before .before .before .before .before .before .loop-test .taken) (c .before .before .before .before .before .before .before .before .loop .inv) (call .0) (call .1 .0) (call .1 .1)
+
+same-length : tie.Need-same-length Inv-loop μ-loop
+same-length c = c .before .loop .inv .size
+
+same-length-2 : tie.Need-same-length-2 Inv-loop μ-loop
+same-length-2 c = c .before .loop .inv .elsewhere .size
+
+returns : tie.Need-returns Inv-loop μ-loop
+returns c =
+    let inv = c .before .loop .inv in
+    let last : c .before .loop .r ≡ c .before .before .before .before .before .args .upto + 1 = omega (arith, inv .end, c .loop-test .left) in
+    (inv .size, (rw last at (inv .elsewhere), rw (last, level-back _ (c .before .before .before .before .before .pre .1 .1 .1)) at (inv .more)))
+
+pub fill-run-spec : {M : Type 1} → statement M
+fill-run-spec =
+    tie.close
+    (tie.spec
+    Inv-loop
+    μ-loop
+    loop-holds
+    row-state-requires
+    add-r
+    loop-less
+    loop-again
+    same-length
+    same-length-2
+    returns)
