@@ -12,8 +12,10 @@ fn main() {
     let out = PathBuf::from(env::var("OUT_DIR").unwrap());
     println!("cargo:rerun-if-env-changed=JIXEL_SRC");
     println!("cargo:rerun-if-changed=src/doors");
-    // The static library that the bench links.
-    println!("cargo:rustc-link-search=native={}", here.join("../target/staticlib").display());
+    // The static library that the bench and the leaves link; a new one is linked anew.
+    let library = here.join("../target/staticlib");
+    println!("cargo:rustc-link-search=native={}", library.display());
+    println!("cargo:rerun-if-changed={}", library.join("librdoq_c.a").display());
     println!("cargo:rustc-env=BENCH_RUSTC={}", rustc());
     // Features of the Rust's own, all off.
     println!("cargo:rustc-check-cfg=cfg(feature, values(\"extraslow\", \"neon\"))");

@@ -51,7 +51,8 @@ fn collected(thing: Thing, rounds: usize) -> u64 {
     let said = String::from_utf8_lossy(&output.stderr);
     let count = said.lines().find_map(|line| line.split("Collected :").nth(1));
     match count.and_then(|count| count.trim().parse().ok()) {
-        Some(count) if output.status.success() => count,
+        // None at all would mean that callgrind did not find the round by its name.
+        Some(count) if output.status.success() && count > 0 => count,
         _ => panic!("no count from callgrind:\n{said}"),
     }
 }
