@@ -3,7 +3,10 @@
 # make bindings   the static library, the C example and the tests of the Rust crate
 # make compare N=1000 CLASSES=1,2 SEED=1 WITHOUT=beam
 #                 the leaf calls, and N blocks of each size class, by the Rust and by this port (compare/README.md says what is compared)
-# make bench      times beside the Rust's
+# make bench PASSES=31
+#                 times beside the Rust's, printed, and put into docs/PERFORMANCE.md and docs/performance.svg
+# make bench MODE=instructions
+#                 the same tables in instructions, counted by callgrind (valgrind), printed, and put into docs/PERFORMANCE.md
 
 SHELL := bash
 .SHELLFLAGS := -euo pipefail -c
@@ -14,6 +17,10 @@ N ?= 1000
 SEED ?= 1
 CLASSES ?=
 WITHOUT ?=
+
+# And for the bench.
+MODE ?= times
+PASSES ?= 31
 
 # The Rust, for comparisons: the folder that holds src/group/trellis.rs.
 JIXEL_SRC ?= $(abspath ../shared/docs/src)
@@ -66,8 +73,12 @@ compare:
 	@compare/target/release/leaves
 	@compare/target/release/compare $(N) --seed $(SEED) --port target/bin/level_search $(if $(CLASSES),--classes $(CLASSES)) $(if $(WITHOUT),--without $(WITHOUT))
 
+BENCH_times = times $(PASSES) docs/PERFORMANCE.md docs/performance.svg
+BENCH_instructions = instructions docs/PERFORMANCE.md
+
 bench:
 	@command -v cargo > /dev/null || { echo 'make bench needs cargo, and the Rust in the folder that JIXEL_SRC names'; exit 2; }
 	@mkdir -p target
 	@rt staticlib rdoq_c > target/staticlib.log 2>&1 || { cat target/staticlib.log >&2; exit 1; }
-	@cargo run --quiet --profile speed --offline --manifest-path compare/Cargo.toml --bin bench -- docs/performance.svg
+	@cargo build --quiet --profile speed --offline --manifest-path compare/Cargo.toml --bin bench
+	@compare/target/speed/bench $(BENCH_$(MODE))

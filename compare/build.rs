@@ -4,6 +4,7 @@
 //! The Rust is found in the folder that JIXEL_SRC names (the one that holds src/group.rs).
 
 use std::path::{Path, PathBuf};
+use std::process::Command;
 use std::{env, fs};
 
 fn main() {
@@ -11,8 +12,11 @@ fn main() {
     let out = PathBuf::from(env::var("OUT_DIR").unwrap());
     println!("cargo:rerun-if-env-changed=JIXEL_SRC");
     println!("cargo:rerun-if-changed=src/doors");
-    // The static library that the bench links.
-    println!("cargo:rustc-link-search=native={}", here.join("../target/staticlib").display());
+    // The static library that the bench and the leaves link; a new one is linked anew.
+    let library = here.join("../target/staticlib");
+    println!("cargo:rustc-link-search=native={}", library.display());
+    println!("cargo:rerun-if-changed={}", library.join("librdoq_c.a").display());
+    println!("cargo:rustc-env=BENCH_RUSTC={}", rustc());
     // Features of the Rust's own, all off.
     println!("cargo:rustc-check-cfg=cfg(feature, values(\"extraslow\", \"neon\"))");
     let rust = match env::var("JIXEL_SRC") {
@@ -33,6 +37,13 @@ fn main() {
     fs::write(out.join("entropy_code.rs"), with_door(&here, &entropy, "entropy_code")).unwrap();
     fs::write(out.join("group.rs"), with_door(&here, bias, "group")).unwrap();
     fs::write(out.join("original.rs"), modules(&out)).unwrap();
+}
+
+/// The compiler's name and version, for the bench to say.
+fn rustc() -> String {
+    let output = Command::new(env::var("RUSTC").unwrap()).arg("--version").output().expect("rustc --version");
+    let line = String::from_utf8_lossy(&output.stdout).into_owned();
+    line.split(" (").next().unwrap_or_default().trim().to_string()
 }
 
 fn read(folder: &Path, name: &str) -> String {

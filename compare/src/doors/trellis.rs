@@ -5,6 +5,14 @@ use crate::data::{Block, Search};
 #[derive(Default)]
 pub(crate) struct Scratch(super::RdoqScratch);
 
+impl Scratch {
+    /// True where nothing of a search is left in it.
+    pub(crate) fn is_clear(&self) -> bool {
+        let costs = self.0.costs.iter().flat_map(|rows| rows.iter().flatten());
+        self.0.choices.iter().all(|&x| x == u8::MAX) && costs.into_iter().all(|&x| x == f32::INFINITY)
+    }
+}
+
 /// Runs one search on `levels`, which starts as the block's own.
 pub(crate) fn run(
     search: Search,

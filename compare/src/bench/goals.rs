@@ -1,0 +1,61 @@
+//! The goals, and whether they are met.
+
+use crate::data::SEARCHES;
+use crate::measure::{BookCosts, Results, SearchCosts};
+use crate::show::{cells, table, Unit};
+use crate::tables::{config, share_of};
+
+/// The search part over the Rust's search.
+pub const SEARCH_GOAL: f64 = 1.1;
+/// The block's checks and clearing at c = 1 over the Rust's search.
+const SHARE_GOAL: f64 = 0.25;
+/// Checks 1 to 6 at 64 clusters, where the plain loop takes about 44 µs.
+const CHECKS_GOAL: f64 = 12_000.0;
+const PLAIN: f64 = 44_000.0;
+
+pub fn all(results: &Results, unit: Unit) -> String {
+    let mut rows = Vec::new();
+    for search in SEARCHES {
+        let of: Vec<_> = results.searches.iter().filter(|costs| costs.search == search).collect();
+        let ratios: Vec<f64> = of.iter().map(|costs| costs.ratio()).collect();
+        let goal = format!("{search:?}: search part at most {SEARCH_GOAL} of the Rust's search, at every size and density");
+        rows.push(row(&goal, &ratios, SEARCH_GOAL));
+    }
+    for search in SEARCHES {
+        let at_one = |costs: &&SearchCosts| costs.search == search && costs.c == 1;
+        let shares: Vec<f64> = results.searches.iter().filter(at_one).map(|costs| share_of(results, costs).2).collect();
+        let goal = format!("{search:?} at c = 1: checks 7 to 14 and clearing at most a quarter of the Rust's search");
+        rows.push(row(&goal, &shares, SHARE_GOAL));
+    }
+    rows.extend(results.books.iter().filter(|costs| costs.clusters == 64).map(|costs| checks(costs, unit)));
+    table("Goals", "", &cells(&["Goal", "Measured", "Met"]), &rows)
+}
+
+fn met(yes: bool) -> String {
+    (if yes { "yes" } else { "no" }).to_string()
+}
+
+fn row(goal: &str, ratios: &[f64], most: f64) -> Vec<String> {
+    let least = ratios.iter().copied().fold(f64::INFINITY, f64::min);
+    let worst = ratios.iter().copied().fold(0.0, f64::max);
+    let within = ratios.iter().filter(|&&ratio| ratio <= most).count();
+    vec![goal.to_string(), format!("{least:.3} to {worst:.3}; {within} of {} within", ratios.len()), met(within == ratios.len())]
+}
+
+/// In instructions the goal is the share of the plain loop that it had as a time.
+fn checks(costs: &BookCosts, unit: Unit) -> Vec<String> {
+    let share = costs.checks / costs.plain;
+    let goal = match unit {
+        Unit::Nanoseconds => "12 µs, where the plain loop takes about 44".to_string(),
+        Unit::Instructions => format!("{:.3} of the plain loop", CHECKS_GOAL / PLAIN),
+    };
+    let within = match unit {
+        Unit::Nanoseconds => costs.checks <= CHECKS_GOAL,
+        Unit::Instructions => share <= CHECKS_GOAL / PLAIN,
+    };
+    vec![
+        format!("Checks 1 to 6 at 64 clusters, {}: at most {goal}", config(costs.config)),
+        format!("{}; plain loop {}; {share:.3} of it", unit.checks(costs.checks), unit.checks(costs.plain)),
+        met(within),
+    ]
+}

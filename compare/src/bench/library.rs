@@ -1,0 +1,63 @@
+//! The two calls of the static library that are measured.
+
+use crate::data::{Block, Book, Search};
+
+#[link(name = "rdoq_c", kind = "static")]
+extern "C" {
+    fn rdoq_check_book(
+        clusters: u32, map: *const u8, map_len: usize, configs: *const u8, configs_len: usize, symbols: *const f32, symbols_len: usize,
+        ready: *const f32, ready_len: usize,
+    ) -> u32;
+    fn rdoq_block(
+        search: u32, clusters: u32, map: *const u8, map_len: usize, configs: *const u8, configs_len: usize, symbols: *const f32,
+        symbols_len: usize, ready: *const f32, ready_len: usize, cx: u32, cy: u32, strategy: u8, channel: u8, qf_hi: bool, predicted: u8,
+        channel_weight: f32, lambda: f32, penalty: f32, distance: f32, one: f32, numerator: f32, scale: f32, scan: *const u32,
+        scan_len: usize, source: *const f32, source_len: usize, inv_qm: *const f32, inv_qm_len: usize, levels: *mut i32, levels_len: usize,
+        choices: *mut u8, choices_len: usize, row_a: *mut f32, row_a_len: usize, row_b: *mut f32, row_b_len: usize, cost: *mut f32,
+        count: *mut u32,
+    ) -> u32;
+}
+
+/// The room that a call is lent.
+pub struct Room {
+    pub choices: Vec<u8>,
+    pub rows: [Vec<f32>; 2],
+}
+
+impl Room {
+    /// Of so many choice bytes and so many floats in each row, none of them as a call leaves it.
+    pub fn of(choices: usize, row: usize) -> Room {
+        Room { choices: vec![7; choices], rows: [vec![7.0; row], vec![7.0; row]] }
+    }
+
+    /// True where all of it is as trellis and beam leave it.
+    pub fn is_clear(&self) -> bool {
+        self.choices.iter().all(|&x| x == 255) && self.rows.iter().flatten().all(|&x| x == f32::INFINITY)
+    }
+}
+
+/// Checks 1 to 6.
+pub fn check(book: &Book) -> u32 {
+    unsafe {
+        rdoq_check_book(
+            book.clusters, book.map.as_ptr(), book.map.len(), book.configs.as_ptr(), book.configs.len(), book.symbols.as_ptr(),
+            book.symbols.len(), book.ready.as_ptr(), book.ready.len(),
+        )
+    }
+}
+
+/// The whole public call.
+pub fn call(search: Search, book: &Book, block: &Block, levels: &mut [i32], room: &mut Room) -> u32 {
+    let (mut cost, mut count) = (0.0f32, 0u32);
+    let [a, b] = &mut room.rows;
+    unsafe {
+        rdoq_block(
+            search as u32, book.clusters, book.map.as_ptr(), book.map.len(), book.configs.as_ptr(), book.configs.len(),
+            book.symbols.as_ptr(), book.symbols.len(), book.ready.as_ptr(), book.ready.len(), block.cx, block.cy, block.strategy,
+            block.channel, block.quant_class, block.predicted, block.channel_weight, block.lambda, block.penalty, block.distance, block.one,
+            block.numerator, block.scale, block.scan.as_ptr(), block.scan.len(), block.source.as_ptr(), block.source.len(),
+            block.inverse.as_ptr(), block.inverse.len(), levels.as_mut_ptr(), levels.len(), room.choices.as_mut_ptr(), room.choices.len(),
+            a.as_mut_ptr(), a.len(), b.as_mut_ptr(), b.len(), &mut cost, &mut count,
+        )
+    }
+}

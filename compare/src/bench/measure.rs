@@ -1,0 +1,194 @@
+//! All that is measured, in the order of the tables. A meter is the clock or callgrind.
+
+use crate::count::Counter;
+use crate::data::{Search, SEARCHES};
+use crate::inputs::{needed, CLUSTERS, CONFIGS, DENSITIES, SEARCHED, SIZES};
+use crate::things::{Thing, Work};
+use std::time::{Duration, Instant};
+
+/// A pass of a thing lasts about this long, and at least a round.
+const PASS: Duration = Duration::from_millis(4);
+
+/// Clearing is measured on so many times the room that a search needs, besides that room.
+pub const SURPLUS: usize = 16;
+
+/// A search of blocks of one size and density: the port's whole call, checks 1 to 6 of its book, and the Rust's search.
+pub struct SearchCosts {
+    pub search: Search,
+    pub c: usize,
+    pub density: usize,
+    pub call: f64,
+    pub checks: f64,
+    pub rust: f64,
+}
+
+impl SearchCosts {
+    /// The whole call less checks 1 to 6.
+    pub fn part(&self) -> f64 {
+        self.call - self.checks
+    }
+
+    pub fn ratio(&self) -> f64 {
+        self.part() / self.rust
+    }
+}
+
+/// Checks 1 to 6, and the plain loop of check 6.
+pub struct BookCosts {
+    pub clusters: usize,
+    pub config: usize,
+    pub checks: f64,
+    pub plain: f64,
+}
+
+/// Checks 7 to 14.
+pub struct BlockCosts {
+    pub c: usize,
+    pub density: usize,
+    pub checks: f64,
+}
+
+/// Clearing the room that a search needs.
+pub struct ClearCosts {
+    pub search: Search,
+    pub c: usize,
+    pub clearing: f64,
+}
+
+/// A call with surplus room, all of it in the choices or all of it in the rows.
+pub struct LentCosts {
+    pub surplus: usize,
+    pub choices: f64,
+    pub rows: f64,
+}
+
+pub struct Results {
+    pub searches: Vec<SearchCosts>,
+    pub books: Vec<BookCosts>,
+    pub blocks: Vec<BlockCosts>,
+    pub clearing: Vec<ClearCosts>,
+    pub lent: Vec<LentCosts>,
+}
+
+pub enum Meter {
+    Clock { passes: usize },
+    Callgrind(Counter),
+}
+
+impl Meter {
+    /// What a call of each thing costs, the things measured by turns.
+    fn by_turns<const N: usize>(&mut self, things: [Thing; N]) -> [f64; N] {
+        match self {
+            Meter::Clock { passes } => timed(*passes, things),
+            Meter::Callgrind(counter) => things.map(|thing| counter.count(thing)),
+        }
+    }
+
+    pub fn all(&mut self) -> Results {
+        Results { searches: self.searches(), books: self.books(), blocks: self.blocks(), clearing: self.clearing(), lent: self.lent() }
+    }
+
+    fn searches(&mut self) -> Vec<SearchCosts> {
+        let mut rows = Vec::new();
+        for (density, (name, _)) in DENSITIES.into_iter().enumerate() {
+            eprintln!("searches, {name}");
+            for (c, _) in SIZES {
+                for search in SEARCHES {
+                    let book = Thing::Checks { clusters: SEARCHED, config: 0 };
+                    let things = [Thing::Call { search, c, density }, book, Thing::Original { search, c, density }];
+                    let [call, checks, rust] = self.by_turns(things);
+                    rows.push(SearchCosts { search, c, density, call, checks, rust });
+                }
+            }
+        }
+        rows
+    }
+
+    fn books(&mut self) -> Vec<BookCosts> {
+        eprintln!("checks 1 to 6");
+        let mut rows = Vec::new();
+        for clusters in CLUSTERS {
+            for config in 0..CONFIGS.len() {
+                let [checks, plain] = self.by_turns([Thing::Checks { clusters, config }, Thing::PlainLoop { clusters, config }]);
+                rows.push(BookCosts { clusters, config, checks, plain });
+            }
+        }
+        rows
+    }
+
+    fn blocks(&mut self) -> Vec<BlockCosts> {
+        eprintln!("checks 7 to 14");
+        let mut rows = Vec::new();
+        for density in 0..DENSITIES.len() {
+            for (c, _) in SIZES {
+                let [refused, book] = self.by_turns([Thing::Refused { c, density }, Thing::Checks { clusters: 1, config: 0 }]);
+                rows.push(BlockCosts { c, density, checks: refused - book });
+            }
+        }
+        rows
+    }
+
+    /// No call clears alone. So: how much longer a call takes that is lent surplus room, divided down to the room that is needed.
+    fn clearing(&mut self) -> Vec<ClearCosts> {
+        eprintln!("clearing");
+        let mut rows = Vec::new();
+        // The window, and so the room, is no longer at c = 1,024 than at 64.
+        for (c, _) in &SIZES[..4] {
+            for search in [Search::Beam, Search::Trellis] {
+                let (choices, row) = needed(search, *c);
+                let with = |times: usize| Thing::Settled { search, choices: times * choices, row: times * row };
+                let [exact, more] = self.by_turns([with(1), with(1 + SURPLUS)]);
+                rows.push(ClearCosts { search, c: *c, clearing: (more - exact) / SURPLUS as f64 });
+            }
+        }
+        rows
+    }
+
+    fn lent(&mut self) -> Vec<LentCosts> {
+        let (choices, row) = needed(Search::Trellis, 1);
+        let with = |choices, row| Thing::Settled { search: Search::Trellis, choices, row };
+        // The second makes the choices 28,672 bytes, which serve every block.
+        [0, 28672 - choices, 1 << 20, 4 << 20]
+            .map(|surplus| {
+                // Of four bytes a float, in two rows.
+                let [choices, rows] = self.by_turns([with(choices + surplus, row), with(choices, row + surplus / 8)]);
+                LentCosts { surplus, choices, rows }
+            })
+            .into()
+    }
+}
+
+/// Nanoseconds, the median of the passes.
+fn timed<const N: usize>(passes: usize, things: [Thing; N]) -> [f64; N] {
+    let mut works = things.map(Work::of);
+    let rounds = works.each_mut().map(rounds_in_a_pass);
+    let mut times = [(); N].map(|_| Vec::new());
+    for _ in 0..passes {
+        for at in 0..N {
+            times[at].push(pass(&mut works[at], rounds[at]) / works[at].calls() as f64);
+        }
+    }
+    times.map(median)
+}
+
+/// Nanoseconds of a round: the median of so many, so that an interruption does not count. What resets the levels is outside.
+fn pass(work: &mut Work, rounds: usize) -> f64 {
+    let mut times = Vec::new();
+    for _ in 0..rounds {
+        work.reset();
+        let start = Instant::now();
+        work.round();
+        times.push(start.elapsed().as_nanos() as f64);
+    }
+    median(times)
+}
+
+/// Found by a pass that warms the buffers too.
+fn rounds_in_a_pass(work: &mut Work) -> usize {
+    ((PASS.as_nanos() as f64 / pass(work, 5)) as usize).max(1)
+}
+
+fn median(mut times: Vec<f64>) -> f64 {
+    times.sort_by(f64::total_cmp);
+    times[times.len() / 2]
+}

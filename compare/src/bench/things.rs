@@ -1,0 +1,187 @@
+//! What is measured, and how it is run.
+
+use crate::data::{Block, Book, Search, SEARCHES};
+use crate::entropy::entropy_code::door::lent;
+use crate::entropy::FrozenTokenPrices;
+use crate::group::trellis::door::{run, Scratch};
+use crate::inputs::{self, CONFIGS, SEARCHED};
+use crate::library::{self, Room};
+use std::hint::black_box;
+
+/// One thing that is measured. `density` and `config` are places in the lists of `inputs`.
+#[derive(Clone, Copy, PartialEq)]
+pub enum Thing {
+    /// The whole public call, with exactly the room that it needs.
+    Call { search: Search, c: usize, density: usize },
+    /// The Rust's search of the same blocks.
+    Original { search: Search, c: usize, density: usize },
+    /// Checks 1 to 6.
+    Checks { clusters: usize, config: usize },
+    /// Check 6 as a plain loop that splits every value.
+    PlainLoop { clusters: usize, config: usize },
+    /// A call that is lent no room: 14 refuses it, so that it makes checks 1 to 14 and no more. Its book has one cluster.
+    Refused { c: usize, density: usize },
+    /// A call on a settled block of c = 1, with a room of so many choice bytes and floats in a row. Its book has one cluster.
+    Settled { search: Search, choices: usize, row: usize },
+}
+
+impl Thing {
+    /// As numbers, to name it to a child process.
+    pub fn numbers(self) -> [usize; 4] {
+        match self {
+            Thing::Call { search, c, density } => [0, search as usize, c, density],
+            Thing::Original { search, c, density } => [1, search as usize, c, density],
+            Thing::Checks { clusters, config } => [2, clusters, config, 0],
+            Thing::PlainLoop { clusters, config } => [3, clusters, config, 0],
+            Thing::Refused { c, density } => [4, c, density, 0],
+            Thing::Settled { search, choices, row } => [5, search as usize, choices, row],
+        }
+    }
+
+    pub fn of(numbers: [usize; 4]) -> Thing {
+        match numbers {
+            [0, search, c, density] => Thing::Call { search: SEARCHES[search], c, density },
+            [1, search, c, density] => Thing::Original { search: SEARCHES[search], c, density },
+            [2, clusters, config, ..] => Thing::Checks { clusters, config },
+            [3, clusters, config, ..] => Thing::PlainLoop { clusters, config },
+            [4, c, density, ..] => Thing::Refused { c, density },
+            [_, search, choices, row] => Thing::Settled { search: SEARCHES[search], choices, row },
+        }
+    }
+}
+
+/// A block, and the levels that a search is lent.
+struct Lent {
+    block: Block,
+    levels: Vec<i32>,
+}
+
+enum Task {
+    Port { search: Search, book: Book, lent: Vec<Lent>, room: Room },
+    Rust { search: Search, prices: FrozenTokenPrices, lent: Vec<Lent>, scratch: Scratch },
+    Checks(Book),
+    PlainLoop(Book),
+}
+
+/// A thing made ready to be run in rounds.
+pub struct Work {
+    task: Task,
+    /// How often a round runs it: more than once where it is short and changes nothing.
+    repeat: usize,
+}
+
+impl Work {
+    /// Ready, and run once.
+    pub fn of(thing: Thing) -> Work {
+        let mut work = Work::made(thing);
+        let due = if let Thing::Refused { .. } = thing { 14 } else { 0 };
+        assert_eq!(work.round(), due);
+        work.reset();
+        work
+    }
+
+    fn made(thing: Thing) -> Work {
+        let once = |task| Work { task, repeat: 1 };
+        match thing {
+            Thing::Call { search, c, density } => {
+                let (choices, row) = inputs::needed(search, c);
+                once(port(search, SEARCHED, inputs::blocks(c, density), Room::of(choices, row)))
+            }
+            Thing::Original { search, c, density } => {
+                let prices = lent(&inputs::book(SEARCHED, CONFIGS[0]));
+                once(Task::Rust { search, prices, lent: lend(inputs::blocks(c, density)), scratch: Scratch::default() })
+            }
+            Thing::Checks { clusters, config } => {
+                Work { task: Task::Checks(inputs::book(clusters, CONFIGS[config])), repeat: 512 / clusters }
+            }
+            Thing::PlainLoop { clusters, config } => {
+                Work { task: Task::PlainLoop(inputs::book(clusters, CONFIGS[config])), repeat: 512 / clusters }
+            }
+            Thing::Refused { c, density } => once(port(Search::Trellis, 1, inputs::blocks(c, density), Room::of(0, 0))),
+            Thing::Settled { search, choices, row } => {
+                Work { task: port(search, 1, vec![inputs::settled()], Room::of(choices, row)), repeat: 64 }
+            }
+        }
+    }
+
+    /// The calls of a round.
+    pub fn calls(&self) -> usize {
+        match &self.task {
+            Task::Port { lent, .. } | Task::Rust { lent, .. } => self.repeat * lent.len(),
+            Task::Checks(_) | Task::PlainLoop(_) => self.repeat,
+        }
+    }
+
+    /// Puts every level back. No part of what is measured.
+    pub fn reset(&mut self) {
+        if let Task::Port { lent, .. } | Task::Rust { lent, .. } = &mut self.task {
+            for Lent { block, levels } in lent {
+                levels.copy_from_slice(&block.levels);
+            }
+        }
+    }
+
+    /// What is measured; answers the last reply. Never inlined: callgrind counts within this function alone.
+    #[inline(never)]
+    pub fn round(&mut self) -> u32 {
+        let mut reply = 0;
+        for _ in 0..self.repeat {
+            match &mut self.task {
+                Task::Port { search, book, lent, room } => {
+                    for Lent { block, levels } in lent {
+                        reply = library::call(*search, book, block, levels, room);
+                    }
+                }
+                Task::Rust { search, prices, lent, scratch } => {
+                    for Lent { block, levels } in lent.iter_mut() {
+                        run(*search, block, prices, levels, scratch);
+                    }
+                    black_box(lent);
+                }
+                Task::Checks(book) => reply = library::check(black_box(book)),
+                Task::PlainLoop(book) => reply = plain_loop(black_box(book)),
+            }
+        }
+        reply
+    }
+
+    /// The levels after a round.
+    pub fn levels(&self) -> Vec<&[i32]> {
+        match &self.task {
+            Task::Port { lent, .. } | Task::Rust { lent, .. } => lent.iter().map(|lent| &lent.levels[..]).collect(),
+            Task::Checks(_) | Task::PlainLoop(_) => Vec::new(),
+        }
+    }
+
+    /// True where the room is clear after a round.
+    pub fn is_clear(&self) -> bool {
+        match &self.task {
+            Task::Port { room, .. } => room.is_clear(),
+            Task::Rust { scratch, .. } => scratch.is_clear(),
+            Task::Checks(_) | Task::PlainLoop(_) => false,
+        }
+    }
+}
+
+fn lend(blocks: Vec<Block>) -> Vec<Lent> {
+    blocks.into_iter().map(|block| Lent { levels: block.levels.clone(), block }).collect()
+}
+
+fn port(search: Search, clusters: usize, blocks: Vec<Block>, room: Room) -> Task {
+    Task::Port { search, book: inputs::book(clusters, CONFIGS[0]), lent: lend(blocks), room }
+}
+
+/// Check 6, each value split: the loop that the checks are held to.
+fn plain_loop(book: &Book) -> u32 {
+    for cluster in 0..book.clusters as usize {
+        let config = &book.configs[3 * cluster..3 * cluster + 3];
+        for value in 0..256 {
+            let (symbol, extra) = inputs::split(value as u32, config);
+            let price = book.symbols[128 * cluster + symbol as usize] + extra as f32;
+            if price.to_bits() != book.ready[256 * cluster + value].to_bits() {
+                return 6;
+            }
+        }
+    }
+    0
+}
