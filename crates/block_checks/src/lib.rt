@@ -6,7 +6,8 @@ ghost use mathlib.Core.Path.{_≡_};
 ghost use mathlib.Core.Bool.{true, _&&_};
 ghost use Prim.Native.Nat.{_+_, _*_, _≤_};
 ghost use lib.Dec.{eqb, leb};
-ghost use lib.ListN.{length};
+ghost use lib.IntN.{pos};
+ghost use lib.ListN.{length, getD};
 ghost use Rattle.ac_context.specs.Contexts.{isPowerBelow};
 ghost use Rattle.block.specs.Block.{blockOf, covered, idealAt};
 ghost use Rattle.block.specs.Checks.{blockRefusal, trellisRoom, beamRoom};
@@ -70,12 +71,37 @@ fn is_coded(strategy: u8, channel: u8) -> bool
     channel <= 2
 }
 
-// Check 12: the levels from scan position c on.
+// 0 for a level within ±32,767, else 1.
+fn outside(level: i32) -> u32
+    ensures { λ r. ⌜ isCurrent level ≡ eqb r 0 ⌝ }
+    ensures { λ r. ⌜ r ≤ 1 ⌝ }
+{
+    if candidates::is_current(level) { 0 } else { 1 }
+}
+
+// Whether every level is within ±32,767, the first c of the scan among them. In the list's own order and with no early exit the loop is vectorised.
+fn all_within(levels: &[i32]) -> bool
+    requires { ⌜ length (now levels) ≤ 65536 ⌝ }
+    ensures { λ r. ⌜ r ≡ each (length (now (levels .entry))) (λ i. isCurrent (getD (now (levels .entry)) i (pos 0))) ⌝ }
+{
+    let mut bad: u32 = 0;
+    let mut i = 0;
+    while i < levels.len() {
+        bad += outside(levels[i]);
+        i += 1;
+    }
+    bad == 0
+}
+
+// Check 12: the levels from scan position c on. Where all pass, those do.
 fn levels_within(covered_blocks: usize, scan: &[u32], levels: &[i32]) -> bool
-    requires { ⌜ Perm (now scan) (64 * «covered_blocks») ⌝ }
+    requires { ⌜ (Perm (now scan) (64 * «covered_blocks»)) × («covered_blocks» ≤ 1024) ⌝ }
     requires { ⌜ length (now levels) ≡ 64 * «covered_blocks» ⌝ }
     ensures { λ r. ⌜ r ≡ each (63 * «covered_blocks») (λ i. isCurrent (levelAt (now (scan .entry)) (now (levels .entry)) («covered_blocks» + i))) ⌝ }
 {
+    if all_within(levels) {
+        return true;
+    }
     let n = 63 * covered_blocks;
     let mut i = 0;
     while i < n {

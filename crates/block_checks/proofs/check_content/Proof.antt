@@ -18,7 +18,7 @@ levels-within-requires : tie.Need-levels-within-requires
 levels-within-requires c κs =
     let ok = c .before .before .before .before .before .before .pre in
     let blocks = c .before .before .covered-blocks .ensures in
-    (scanned _ ok blocks (held (c .before .each-once .ensures) (c .if1 .left)), levels-held _ ok blocks)
+    ((scanned _ ok blocks (held (c .before .each-once .ensures) (c .if1 .left)), few _ ok blocks), levels-held _ ok blocks)
 
 returns-2 : tie.Need-returns-2
 returns-2 c =
