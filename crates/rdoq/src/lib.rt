@@ -1,10 +1,12 @@
-// The level search for JPEG XL blocks: the public calls. Each takes anything, and answers a value or the number of a refusal.
-pub mod answer;
-pub mod book;
-pub mod contexts;
-pub mod dequant;
-pub mod levels;
+// The level search for JPEG XL blocks: the public calls. Each takes anything, and answers a value or the number of a refusal. A call's contract and code stand in a crate below:
+// tokens and contexts in `token_calls`, bias, weights and candidates in `level_calls`, the price book in `book_calls`, the searches where `search` says.
 pub mod search;
-pub mod tokens;
-pub mod view;
-pub mod weighing;
+
+pub use answers::answer;
+pub use book_calls::book;
+pub use book_calls::view;
+pub use level_calls::dequant;
+pub use level_calls::levels;
+pub use level_calls::weighing;
+pub use token_calls::contexts;
+pub use token_calls::tokens;

@@ -16,8 +16,8 @@ use Rattle.candidates.specs.Nearest.{isIdeal}
 use Rattle.candidates.specs.Candidates.{candidatesOf, filled, filler, isCurrent}
 use Rattle.candidates.proofs.Laws.{candidates-listed, filled-length, every, every-at, within}
 use Rattle.candidates.proofs.Levels.{in-back}
-use Rattle.rdoq.specs.Levels.{candidatesReply, listed}
-use Rattle.rdoq.specs.declared.answer.Listed.{Listed}
+use Rattle.level_calls.specs.Levels.{candidatesReply, listed}
+use Rattle.answers.specs.declared.answer.Listed.{Listed}
 use Rattle.rdoq_c.specs.Told.{numberCode, numberAfter, listedCode, levelsAfter, listedCountAfter}
 
 -- the 32 bits of a level, read back

@@ -11,17 +11,17 @@ use Rattle.block.specs.declared.Answer.{Answer}
 use Rattle.block.specs.declared.Answer.the-variants.{Cost, Count, Refused}
 use Rattle.packing.specs.declared.Split.{Split}
 use Rattle.weights.specs.declared.Window.{Window}
-use Rattle.rdoq.specs.declared.answer.Number.{Number}
-use Rattle.rdoq.specs.declared.answer.Number.the-variants as Number
-use Rattle.rdoq.specs.declared.answer.Real.{Real}
-use Rattle.rdoq.specs.declared.answer.Real.the-variants as Real
-use Rattle.rdoq.specs.declared.answer.RealPair.{RealPair}
-use Rattle.rdoq.specs.declared.answer.RealPair.the-variants as RealPair
-use Rattle.rdoq.specs.declared.answer.Token.{Token}
-use Rattle.rdoq.specs.declared.answer.Token.the-variants as Token
-use Rattle.rdoq.specs.declared.answer.Lengths.{Lengths}
-use Rattle.rdoq.specs.declared.answer.Lengths.the-variants as Lengths
-use Rattle.rdoq.specs.declared.answer.Listed.{Listed}
+use Rattle.answers.specs.declared.answer.Number.{Number}
+use Rattle.answers.specs.declared.answer.Number.the-variants as Number
+use Rattle.answers.specs.declared.answer.Real.{Real}
+use Rattle.answers.specs.declared.answer.Real.the-variants as Real
+use Rattle.answers.specs.declared.answer.RealPair.{RealPair}
+use Rattle.answers.specs.declared.answer.RealPair.the-variants as RealPair
+use Rattle.answers.specs.declared.answer.Token.{Token}
+use Rattle.answers.specs.declared.answer.Token.the-variants as Token
+use Rattle.answers.specs.declared.answer.Lengths.{Lengths}
+use Rattle.answers.specs.declared.answer.Lengths.the-variants as Lengths
+use Rattle.answers.specs.declared.answer.Listed.{Listed}
 
 -- of a search
 unfoldable pub answerCode : Answer → ℕ

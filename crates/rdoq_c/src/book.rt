@@ -6,7 +6,7 @@ ghost use Rattle.prices.specs.Book.{bookOf};
 ghost use Rattle.prices.specs.Checks.{bookRefusal, fillRefusal};
 ghost use Rattle.book_build.specs.Fill.{filledReady};
 ghost use Rattle.book_build.specs.Prefix.{prefixOf, prefixRefusal, prefixSymbols};
-ghost use Rattle.rdoq.specs.Prices.{priceReply, pairReply};
+ghost use Rattle.book_calls.specs.Prices.{priceReply, pairReply};
 ghost use Rattle.rdoq_c.specs.Told.{realCode, realAfter, pairCode, firstAfter, secondAfter};
 
 // The first of checks 1 to 6 that a book fails, or 0.

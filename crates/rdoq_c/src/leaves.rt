@@ -7,11 +7,11 @@ use bias::DequantBias;
 use packing::HybridUintConfig;
 use rdoq::answer::OUTSIDE;
 ghost use mathlib.Core.Path.{_≡_};
-ghost use Rattle.rdoq.specs.Contexts.{blockContextReply, nonZeroContextReply, offsetReply, zeroDensityReply};
-ghost use Rattle.rdoq.specs.Dequant.{levelReply};
-ghost use Rattle.rdoq.specs.Levels.{candidatesReply};
-ghost use Rattle.rdoq.specs.Tokens.{packReply, splitReply};
-ghost use Rattle.rdoq.specs.Weighing.{lambdaReply, chromaReply, distortionReply, windowReply};
+ghost use Rattle.token_calls.specs.Contexts.{blockContextReply, nonZeroContextReply, offsetReply, zeroDensityReply};
+ghost use Rattle.level_calls.specs.Dequant.{levelReply};
+ghost use Rattle.level_calls.specs.Levels.{candidatesReply};
+ghost use Rattle.token_calls.specs.Tokens.{packReply, splitReply};
+ghost use Rattle.level_calls.specs.Weighing.{lambdaReply, chromaReply, distortionReply, windowReply};
 ghost use Rattle.rdoq_c.specs.Parts.{biasOf, configOf};
 ghost use Rattle.rdoq_c.specs.Told.{numberCode, numberAfter, listedCode, levelsAfter, listedCountAfter, realCode, realAfter, tokenCode, symbolAfter, extraAfter, bitsAfter, lengthsCode, lengthAfter, restoringAfter};
 

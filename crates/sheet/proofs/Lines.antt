@@ -9,8 +9,8 @@ use native.Mathlib.Omega.{arith}
 use lib.ListN.{length, getD, set, length-set, length-append, List·getD-append}
 use native.Mathlib.Numerals.{add-one}
 use lib.Seq.{getD-append-add}
-use Rattle.rdoq.specs.declared.answer.Number.{Number}
-use Rattle.rdoq.specs.declared.answer.Number.the-variants.{Value, Refused}
+use Rattle.answers.specs.declared.answer.Number.{Number}
+use Rattle.answers.specs.declared.answer.Number.the-variants.{Value, Refused}
 use Rattle.sheet.specs.Column.{newline, column}
 use Rattle.sheet.specs.Line.{contextOf, fifth, printedLine, laid, isLine, printed}
 

@@ -4,7 +4,7 @@ use borrow.Author.Tests.{ne-eqb}
 use lib.IntN.{ℤ}
 use mir.Syntax.{w32}
 use mir.ValLaws.{toZ-ofZ}
-use Rattle.rdoq.specs.Levels.{candidatesReply}
+use Rattle.level_calls.specs.Levels.{candidatesReply}
 use Rattle.rdoq_c.specs.Told.{listedCode, levelsAfter, listedCountAfter}
 use Rattle.rdoq_c.proofs.Five.{second, third, fourth, fifth, candidates-written, candidates-kept}
 use borrow.Author.Needs.{needs}

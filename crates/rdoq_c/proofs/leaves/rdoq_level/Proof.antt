@@ -2,7 +2,7 @@
 use mathlib.Core.Path.{ap, _∙_}
 use mir.Syntax.{w32}
 use mir.ValLaws.{toZ-ofZ}
-use Rattle.rdoq.specs.Dequant.{levelReply}
+use Rattle.level_calls.specs.Dequant.{levelReply}
 use borrow.Author.Needs.{needs}
 use Rattle.rdoq_c.proofs.leaves.rdoq_level.Statement.{statement}
 use Rattle.rdoq_c.proofs.leaves.rdoq_level.Tie as tie

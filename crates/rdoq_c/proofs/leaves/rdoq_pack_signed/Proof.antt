@@ -2,7 +2,7 @@
 use mathlib.Core.Path.{ap, _∙_}
 use mir.Syntax.{w32}
 use mir.ValLaws.{toZ-ofZ}
-use Rattle.rdoq.specs.Tokens.{packReply}
+use Rattle.token_calls.specs.Tokens.{packReply}
 use borrow.Author.Needs.{needs}
 use Rattle.rdoq_c.proofs.leaves.rdoq_pack_signed.Statement.{statement}
 use Rattle.rdoq_c.proofs.leaves.rdoq_pack_signed.Tie as tie

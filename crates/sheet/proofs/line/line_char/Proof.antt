@@ -1,7 +1,7 @@
 use denote.Ref.{now}
 use Prim.Native.Nat.{_-_}
 use lib.ListN.{getD}
-use Rattle.rdoq.specs.declared.answer.Number.{Number}
+use Rattle.answers.specs.declared.answer.Number.{Number}
 use Rattle.sheet.specs.Line.{fifth}
 use native.Mathlib.Omega.{arith}
 use mathlib.Core.Path.{_≡_, _∙_, sym, ap}

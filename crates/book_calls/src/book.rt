@@ -1,0 +1,95 @@
+// The price book: its checks, its prices, and what fills it. A book is lent in five parts: the number of clusters, the cluster of each of the 14,850
+// contexts, and for each cluster three bytes of configuration, 128 symbol prices and 256 ready prices.
+use answers::answer::OUTSIDE;
+use answers::answer::Real;
+use answers::answer::RealPair;
+use price_leaves::Price;
+use price_leaves::PricePair;
+ghost use mathlib.Core.Path.{_≡_};
+ghost use Rattle.prices.specs.Book.{bookOf};
+ghost use Rattle.prices.specs.Checks.{bookRefusal, fillRefusal};
+ghost use Rattle.book_build.specs.Fill.{filledReady};
+ghost use Rattle.book_build.specs.Prefix.{prefixOf, prefixRefusal, prefixSymbols};
+ghost use Rattle.book_calls.specs.Prices.{priceReply, pairReply};
+
+// The number of the first check among 1 to 6 that a book fails, or 0.
+pub fn check_book(clusters: u32, map: &[u8], configs: &[u8], symbols: &[f32], ready: &[f32]) -> u32
+    ensures { λ r. ⌜ r ≡ bookRefusal (bookOf clusters (now (map .entry)) (now (configs .entry)) (now (symbols .entry)) (now (ready .entry))) ⌝ }
+{
+    book_checks::check_book(clusters, map, configs, symbols, ready)
+}
+
+// Writes every ready price of a book that passes checks 1 to 5, and answers 0. Otherwise answers the number of the first check that fails, and writes nothing.
+pub fn fill_ready(
+    clusters: u32,
+    map: &[u8],
+    configs: &[u8],
+    symbols: &[f32],
+    ready: &mut [f32],
+) -> u32
+    ensures { λ r. ⌜ r ≡ fillRefusal (bookOf clusters (now (map .entry)) (now (configs .entry)) (now (symbols .entry)) (now (ready .entry))) ⌝ }
+    ensures { λ r. ⌜ now (ready .exit) ≡ filledReady (bookOf clusters (now (map .entry)) (now (configs .entry)) (now (symbols .entry)) (now (ready .entry))) ⌝ }
+{
+    book_build::fill_ready(clusters, map, configs, symbols, ready)
+}
+
+// Writes every symbol price of a prefix code, and answers 0. Otherwise answers 1 or 2, for its own lengths, and writes nothing. There are 128 depths a cluster,
+// and a byte that is not 0 where the cluster's code has a single symbol. Strict pricing makes a symbol that the code lacks cost +infinity.
+pub fn prefix_symbol_bits(
+    clusters: u32,
+    depths: &[u8],
+    singles: &[u8],
+    strict: bool,
+    symbols: &mut [f32],
+) -> u32
+    ensures { λ r. ⌜ r ≡ prefixRefusal (prefixOf clusters (now (depths .entry)) (now (singles .entry)) strict) (now (symbols .entry)) ⌝ }
+    ensures { λ r. ⌜ now (symbols .exit) ≡ prefixSymbols (prefixOf clusters (now (depths .entry)) (now (singles .entry)) strict) (now (symbols .entry)) ⌝ }
+{
+    book_build::prefix_symbol_bits(clusters, depths, singles, strict, symbols)
+}
+
+// The price of a value of at most 131,071 in a context. Looks at the entries that it reads and at no others.
+pub fn token_bits(
+    clusters: u32,
+    map: &[u8],
+    configs: &[u8],
+    symbols: &[f32],
+    ready: &[f32],
+    context: u32,
+    value: u32,
+) -> Real
+    ensures { λ r. ⌜ r ≡ priceReply (bookOf clusters (now (map .entry)) (now (configs .entry)) (now (symbols .entry)) (now (ready .entry))) context value ⌝ }
+{
+    let price = price_leaves::token_bits(clusters, map, configs, symbols, ready, context, value);
+    match price {
+        Price::Bits(bits) => Real::Value(bits),
+        Price::Refused(_) => Real::Refused(OUTSIDE),
+    }
+}
+
+// The prices of a value in a context and the next one.
+pub fn token_bits_pair(
+    clusters: u32,
+    map: &[u8],
+    configs: &[u8],
+    symbols: &[f32],
+    ready: &[f32],
+    context: u32,
+    value: u32,
+) -> RealPair
+    ensures { λ r. ⌜ r ≡ pairReply (bookOf clusters (now (map .entry)) (now (configs .entry)) (now (symbols .entry)) (now (ready .entry))) context value ⌝ }
+{
+    let pair = price_leaves::token_bits_pair(
+        clusters,
+        map,
+        configs,
+        symbols,
+        ready,
+        context,
+        value,
+    );
+    match pair {
+        PricePair::Bits(first, second) => RealPair::Value(first, second),
+        PricePair::Refused(_) => RealPair::Refused(OUTSIDE),
+    }
+}

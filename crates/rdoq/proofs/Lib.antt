@@ -1,2 +1,0 @@
-mod Tested
-mod Priced
