@@ -1,0 +1,100 @@
+-- The values with top bit n = m + l + e: 2 ^ m runs of 2 ^ (l + e) values each, e extra bits.
+use Prim.Native.Nat.{ℕ, zero, suc, _+_, _-_, _*_, _/_, _%_, _^_, _<_, _≤_}
+use mathlib.Core.Path.{_≡_, refl, sym, ap, ap₂, _∙_, subst, subst⁻¹}
+use mathlib.Core.Bool.{Bool, true, false, _&&_}
+use native.Mathlib.Omega.{arith}
+use native.Mathlib.Nat.{add-assoc, mul-assoc, one-mul, zero-mul, mul-add-mod-self-right, lt-of-lt-of-le, le-trans, le-of-eq, le-add-right}
+use mathlib.Core.List.{List}
+use lib.Arith.{digits-lt}
+use lib.IntN.{pos}
+use lib.ListN.{getD}
+use lib.Ieee.{Float, fin, add, ofInt, binary32}
+use lib.Pow.{pow-add, pow-mono, pow-pos}
+use lib.Pow as Pow
+use Rattle.packing.specs.Hybrid.{topBit, symbolOf, extraBitsOf}
+use Rattle.packing.proofs.Hybrid.{top-unique, symbol-past, extra-bits-past, symbol-small, extra-bits-small}
+use Rattle.prices.specs.Book.{at, clusterPrice, clusterSymbol, clusterExtra}
+use Rattle.prices.specs.Checks.{each, sameBits}
+use Rattle.prices.proofs.Each.{each-run, each-same}
+use Rattle.prices.proofs.Costs.{zero-extra}
+use Rattle.book_rows.specs.Row.{lineKept, runKept}
+
+-- n blocks of c
+pub each-blocks : (p : ℕ → Bool) (c n : ℕ) → each (n * c) p ≡ each n (λ i. each c (λ t. p (i * c + t)))
+unfolding each
+each-blocks p c zero = rw (zero-mul c) refl
+each-blocks p c (suc n) =
+    let more : suc n * c ≡ n * c + c = omega arith in
+    rw more (each-run p (n * c) c ∙ ap (λ (b : Bool). b && each c (λ t. p (n * c + t))) (each-blocks p c n))
+
+-- value t of run i
+module _ (s m l e i t : ℕ) (past : s ≤ m + l + e) (hi : i < 2 ^ m) (ht : t < 2 ^ (l + e)) where
+  abbrev v : ℕ
+  v = 2 ^ (m + l + e) + (i * 2 ^ (l + e) + t)
+
+  -- the top bit and the m bits under it, and the rest
+  parts : v ≡ (2 ^ m + i) * 2 ^ (l + e) + t
+  parts = ap (λ (k : ℕ). k + (i * 2 ^ (l + e) + t)) (ap (λ (k : ℕ). 2 ^ k) (omega arith) ∙ pow-add 2 m (l + e)) ∙ omega arith
+
+  inside : i * 2 ^ (l + e) + t < 2 ^ (m + l + e)
+  inside = lt-of-lt-of-le (digits-lt hi ht) (le-of-eq (sym (pow-add 2 m (l + e)) ∙ ap (λ (k : ℕ). 2 ^ k) (omega arith)))
+
+  big : 2 ^ s ≤ v
+  big = le-trans (pow-mono past) (le-add-right _ _)
+
+  top : topBit v ≡ m + l + e
+  top = top-unique v (m + l + e) (le-add-right _ _) (omega (arith, inside))
+
+  middle : v / 2 ^ (m + l + e - m) % 2 ^ m ≡ i
+  middle =
+      ap₂ (λ (k w : ℕ). w / 2 ^ k % 2 ^ m) (omega arith) parts
+      ∙ ap (λ (k : ℕ). k % 2 ^ m) (Pow.high (2 ^ m + i) (l + e) ht ∙ ap (λ (k : ℕ). k + i) (sym (one-mul (2 ^ m))))
+      ∙ Pow.low 1 m hi
+
+  low : v % 2 ^ l ≡ t % 2 ^ l
+  low =
+      ap (λ (w : ℕ). w % 2 ^ l)
+      (parts ∙ ap (λ (k : ℕ). (2 ^ m + i) * k + t) (ap (λ (k : ℕ). 2 ^ k) (omega arith) ∙ pow-add 2 e l) ∙ ap (λ (k : ℕ). k + t) (sym (mul-assoc (2 ^ m + i) (2 ^ e) (2 ^ l))))
+      ∙ mul-add-mod-self-right ((2 ^ m + i) * 2 ^ e) (2 ^ l) t
+
+  pub run-symbol : symbolOf s m l v ≡ 2 ^ s + (m + l + e - s) * 2 ^ (m + l) + i * 2 ^ l + t % 2 ^ l
+  run-symbol =
+      symbol-past s m l v big
+      ∙ ap (λ (n : ℕ). 2 ^ s + (n - s) * 2 ^ (m + l) + v / 2 ^ (n - m) % 2 ^ m * 2 ^ l + v % 2 ^ l) top
+      ∙ ap₂ (λ (x y : ℕ). 2 ^ s + (m + l + e - s) * 2 ^ (m + l) + x * 2 ^ l + y) middle low
+
+  pub run-extra : extraBitsOf s m l v ≡ e
+  run-extra = extra-bits-past s m l v big ∙ ap (λ (n : ℕ). n - m - l) top ∙ omega arith
+
+-- ---- the ready prices of cluster k, whose configuration is (s, m, l)
+
+module _ (configs : List ℕ) (symbols ready : List Float) (k s m l : ℕ) (es : getD configs (3 * k) 0 ≡ s) (em : getD configs (3 * k + 1) 0 ≡ m) (el : getD configs (3 * k + 2) 0 ≡ l) where
+  abbrev keptAt : ℕ → Bool
+  keptAt w = sameBits (at ready (256 * k + w)) (clusterPrice configs symbols k w)
+
+  head-price : (v : ℕ) → v < 2 ^ s → clusterPrice configs symbols k v ≡ add binary32 (at symbols (128 * k + v)) (fin false 0 (pos 0))
+  unfolding clusterPrice clusterSymbol clusterExtra
+  head-price v h = rw (es, em, el, symbol-small s m l v h, extra-bits-small s m l v h, zero-extra)
+
+  pub head-all : each (2 ^ s) (lineKept symbols ready (128 * k) (256 * k) (fin false 0 (pos 0))) ≡ each (2 ^ s) (λ w. sameBits (at ready (256 * k + w)) (clusterPrice configs symbols k w))
+  unfolding lineKept
+  head-all = each-same (lineKept symbols ready (128 * k) (256 * k) (fin false 0 (pos 0))) keptAt (2 ^ s) (λ i h. ap (sameBits (at ready (256 * k + i))) (sym (head-price i h)))
+
+  module _ (e from : ℕ) (past : s ≤ m + l + e) (start : from ≡ 128 * k + (2 ^ s + (m + l + e - s) * 2 ^ (m + l))) where
+    run-price : (i t : ℕ) → i < 2 ^ m → t < 2 ^ (l + e) → clusterPrice configs symbols k (2 ^ (m + l + e) + (i * 2 ^ (l + e) + t)) ≡ add binary32 (at symbols (from + i * 2 ^ l + t % 2 ^ l)) (ofInt binary32 (pos e))
+    unfolding clusterPrice clusterSymbol clusterExtra
+    run-price i t hi ht =
+        rw (es, em, el)
+        (ap₂ (λ (w x : ℕ). add binary32 (at symbols w) (ofInt binary32 (pos x)))
+        (ap (λ (w : ℕ). 128 * k + w) (run-symbol s m l e i t past hi ht) ∙ omega (arith, start))
+        (run-extra s m l e i t past hi ht))
+
+    pub octave-all : each (2 ^ m) (λ i. each (2 ^ (l + e)) (runKept symbols ready (from + i * 2 ^ l) (256 * k + 2 ^ (m + l + e) + i * 2 ^ (l + e)) l e)) ≡ each (2 ^ (m + l + e)) (λ w. sameBits (at ready (256 * k + (2 ^ (m + l + e) + w))) (clusterPrice configs symbols k (2 ^ (m + l + e) + w)))
+    unfolding runKept
+    octave-all =
+        each-same _ _ (2 ^ m)
+        (λ i hi.
+        each-same (runKept symbols ready (from + i * 2 ^ l) (256 * k + 2 ^ (m + l + e) + i * 2 ^ (l + e)) l e) (λ t. keptAt (2 ^ (m + l + e) + (i * 2 ^ (l + e) + t))) (2 ^ (l + e))
+        (λ t ht. ap₂ (λ (w : ℕ) (x : Float). sameBits (at ready w) x) (omega arith) (sym (run-price i t hi ht))))
+        ∙ sym (each-blocks (λ w. keptAt (2 ^ (m + l + e) + w)) (2 ^ (l + e)) (2 ^ m))
+        ∙ ap (λ (n : ℕ). each n (λ w. keptAt (2 ^ (m + l + e) + w))) (sym (pow-add 2 m (l + e)) ∙ ap (λ (n : ℕ). 2 ^ n) (omega arith))
