@@ -3,7 +3,7 @@ use Prim.Native.Nat.{ℕ, zero, suc, _+_, _-_, _*_, _/_, _%_, _^_, _<_, _≤_}
 use mathlib.Core.Path.{_≡_, refl, sym, ap, ap₂, _∙_, subst, subst⁻¹}
 use mathlib.Core.Bool.{Bool, true, false, _&&_}
 use native.Mathlib.Omega.{arith}
-use native.Mathlib.Nat.{add-assoc, mul-assoc, one-mul, zero-mul, mul-add-mod-self-right, lt-of-lt-of-le, le-trans, le-of-eq, le-add-right}
+use native.Mathlib.Nat.{add-assoc, mul-assoc, one-mul, zero-mul, mul-le-mul-right, mul-add-mod-self-right, lt-of-lt-of-le, le-trans, le-of-eq, le-add-right}
 use mathlib.Core.List.{List}
 use lib.Arith.{digits-lt}
 use lib.IntN.{pos}
@@ -26,6 +26,10 @@ each-blocks p c zero = rw (zero-mul c) refl
 each-blocks p c (suc n) =
     let more : suc n * c ≡ n * c + c = omega arith in
     rw more (each-run p (n * c) c ∙ ap (λ (b : Bool). b && each c (λ t. p (n * c + t))) (each-blocks p c n))
+
+-- run i of 2 ^ m lies within them all
+pub run-within : (m k i : ℕ) → i < 2 ^ m → i * 2 ^ k + 2 ^ k ≤ 2 ^ (m + k)
+run-within m k i h = rw (pow-add 2 m k) (le-trans (le-of-eq (omega arith)) (mul-le-mul-right (2 ^ k) h))
 
 -- value t of run i
 module _ (s m l e i t : ℕ) (past : s ≤ m + l + e) (hi : i < 2 ^ m) (ht : t < 2 ^ (l + e)) where

@@ -5,7 +5,8 @@ use mathlib.Core.Bool.{Bool, true, false, not, false≢true}
 use native.Mathlib.Omega.{arith}
 use native.Mathlib.Nat.{mul-pos, mul-one, zero-mul}
 use lib.Dec.{T, eqb, eqb→eq, ltb→lt}
-use lib.Ieee.{Float, nan, inf, fin, up, down, lt, eq, isNan, ne, fits, toBits, binary32}
+use lib.IntN.{pos}
+use lib.Ieee.{Float, nan, inf, fin, up, down, add, ofInt, lt, eq, isNan, ne, fits, toBits, binary32}
 use lib.Ieee.Bits.{is-true}
 use lib.Ieee.Fits.{and-l, and-r, down-pos}
 use lib.Ieee.Compare.{differs-from-itself, nan-differs}
@@ -14,9 +15,9 @@ use mathlib.Core.List.{List}
 use Rattle.costs.specs.Cost.{cost}
 use Rattle.costs.proofs.Order.{same-test, eq→le, le→eq, le-refl, le-antisymm}
 use Rattle.prices.specs.Book.{Book, clusterPrice, clusterSymbol}
-use Rattle.prices.proofs.Costs.{cluster-cost, symbol-within}
+use Rattle.prices.proofs.Costs.{cluster-cost, symbol-within, sum-above}
 use Rattle.book_rows.specs.Row.{Row, above}
-use Rattle.prices.specs.Checks.{sameBits}
+use Rattle.prices.specs.Checks.{symbolPrice, sameBits}
 use Rattle.prices.proofs.Passed.{Sound, same-float}
 
 pub no-nan : (x : Float) → ne x x ≡ false → T (not (isNan x))
@@ -67,13 +68,18 @@ sound-row b p k h =
 
 -- ---- a price above 0: floats that equal it have its bits
 
-above-cost : (y : Float) → T (above y) → T (cost y)
+pub above-cost : (y : Float) → T (above y) → T (cost y)
 unfolding above lt cost
 above-cost nan h = h
 above-cost (inf true) h = h
 above-cost (inf false) h = tt
 above-cost (fin true n d) h = h
 above-cost (fin false n d) h = tt
+
+-- a symbol price plus at least one extra bit
+pub price-above : (x : Float) (n : ℕ) → symbolPrice x ≡ true → 0 < n → T (above (add binary32 x (ofInt binary32 (pos n))))
+unfolding above
+price-above x n h some = sum-above n some x h
 
 -- what equals it has a clear sign
 equal-cost : (x y : Float) → T (above y) → T (eq x y) → T (cost x)

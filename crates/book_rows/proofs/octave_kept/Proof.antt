@@ -1,88 +1,135 @@
+-- `book_rows::octave_kept` meets its contract. Assumes nothing.
+use Prim.Native.Nat.{ℕ, _+_, _-_, _*_, _^_, _≤_}
+use mathlib.Core.Path.{_≡_, refl, sym, ap, ap₂, _∙_, subst, subst⁻¹}
+use mathlib.Core.Bool.{true}
+use native.Mathlib.Omega.{arith}
+use native.Mathlib.Nat.{add-assoc, le-trans, le-of-eq, lt-of-lt-of-le}
+use Rattle.prices.specs.Book.{at}
+use Rattle.prices.specs.Checks.{each, symbolPrice}
+use Rattle.prices.proofs.Each.{each-more, each-fails}
+use Rattle.book_rows.specs.Row.{runKept}
+use Rattle.book_rows.proofs.Octave.{run-within}
 use borrow.Author.Needs.{needs}
 use Rattle.book_rows.proofs.octave_kept.Statement.{statement}
 use Rattle.book_rows.proofs.octave_kept.Tie as tie
-use Rattle.book_rows.proofs.octave_kept.Reads as reads
-use Rattle.book_rows.proofs.octave_kept.Lts as lts
-use Rattle.book_rows.proofs.run_kept.Reads as run-kept-reads
-use Rattle.packing.proofs.power.Reads as power-reads
 
 abbrev Inv-loop : tie.InvT-loop
-Inv-loop symbols ready from to m l bits runs period count i₀ i = ?
+Inv-loop symbols ready from to m l bits runs period count i₀ i = (i ≤ runs) × (runs ≡ 2 ^ m) × (period ≡ 2 ^ l) × (count ≡ 2 ^ (l + bits)) × (each i (λ j. each (2 ^ (l + bits)) (runKept symbols ready (from + j * 2 ^ l) (to + j * 2 ^ (l + bits)) l bits)) ≡ true)
 
 abbrev μ-loop : tie.MeasureT-loop
-μ-loop symbols ready from to m l bits runs period count i₀ i = ?
+μ-loop symbols ready from to m l bits runs period count i₀ i = runs - i
 
--- src/lib.rt:158:16
+-- run i's symbols and values are among those given
+abbrev start : tie.At-loop Inv-loop μ-loop → tie.Start Inv-loop μ-loop
+start c = c .before .before .before .before .before .before
+
+symbols-in : (c : tie.In-loop Inv-loop μ-loop) → c .before .loop .i * 2 ^ start (c .before) .args .l + 2 ^ start (c .before) .args .l ≤ 2 ^ (start (c .before) .args .m + start (c .before) .args .l)
+symbols-in c = run-within _ _ _ (lt-of-lt-of-le (c .loop-test .taken) (le-of-eq (c .before .loop .inv .1)))
+
+values-in : (c : tie.In-loop Inv-loop μ-loop)
+    → c .before .loop .i * 2 ^ (start (c .before) .args .l + start (c .before) .args .bits) + 2 ^ (start (c .before) .args .l + start (c .before) .args .bits)
+    ≤ 2 ^ (start (c .before) .args .m + start (c .before) .args .l + start (c .before) .args .bits)
+values-in c =
+    le-trans (run-within (start (c .before) .args .m) _ _ (lt-of-lt-of-le (c .loop-test .taken) (le-of-eq (c .before .loop .inv .1))))
+    (le-of-eq (ap (λ (k : ℕ). 2 ^ k) (omega arith)))
+
+symbols-at : (c : tie.In-loop Inv-loop μ-loop) → c .before .loop .i * c .before .before .before .power2 .result ≡ c .before .loop .i * 2 ^ start (c .before) .args .l
+symbols-at c = ap (λ (p : ℕ). c .before .loop .i * p) (c .before .loop .inv .2)
+
+values-at : (c : tie.In-loop Inv-loop μ-loop) → c .before .loop .i * c .before .before .power3 .result ≡ c .before .loop .i * 2 ^ (start (c .before) .args .l + start (c .before) .args .bits)
+values-at c = ap (λ (p : ℕ). c .before .loop .i * p) (c .before .loop .inv .3)
+
+-- what a call told of run i
+told : (c : tie.After-run-kept Inv-loop μ-loop) → c .run-kept .result ≡ each (2 ^ (start (c .before .before) .args .l + start (c .before .before) .args .bits)) (runKept (start (c .before .before) .args .symbols .now) (start (c .before .before) .args .ready .now) (start (c .before .before) .args .from + c .before .before .loop .i * 2 ^ start (c .before .before) .args .l) (start (c .before .before) .args .to + c .before .before .loop .i * 2 ^ (start (c .before .before) .args .l + start (c .before .before) .args .bits)) (start (c .before .before) .args .l) (start (c .before .before) .args .bits))
+told c =
+    let a = start (c .before .before) .args in
+    c .run-kept .ensures
+    ∙ ap₂ (λ (x y : ℕ). each (2 ^ (a .l + a .bits)) (runKept (a .symbols .now) (a .ready .now) (a .from + x) (a .to + y) (a .l) (a .bits))) (symbols-at (c .before)) (values-at (c .before))
+
 power-requires : tie.Need-power-requires Inv-loop μ-loop
 power-requires c κs = search needs
 
--- src/lib.rt:158:16
 cast-runs : tie.Need-cast-runs Inv-loop μ-loop
 cast-runs c = search needs
 
--- src/lib.rt:159:18
 power-requires-2 : tie.Need-power-requires-2 Inv-loop μ-loop
 power-requires-2 c κs = search needs
 
--- src/lib.rt:159:18
 cast-period : tie.Need-cast-period Inv-loop μ-loop
 cast-period c = search needs
 
--- src/lib.rt:160:32
 add-power : tie.Need-add-power Inv-loop μ-loop
 add-power c = search needs
 
--- src/lib.rt:160:17
 power-requires-3 : tie.Need-power-requires-3 Inv-loop μ-loop
 power-requires-3 c κs = search needs
 
--- src/lib.rt:160:17
 cast-count : tie.Need-cast-count Inv-loop μ-loop
 cast-count c = search needs
 
--- src/lib.rt:162:5
 loop-holds : tie.Need-loop-holds Inv-loop μ-loop
-loop-holds c = search needs
+unfolding each
+loop-holds c =
+    (
+      omega arith,
+      c .before .before .power .ensures,
+      c .before .power2 .ensures,
+      c .power3 .ensures,
+      refl,
+    )
 
--- src/lib.rt:163:44
 mul-run-kept : tie.Need-mul-run-kept Inv-loop μ-loop
-mul-run-kept c = search needs
+mul-run-kept c = omega (arith, symbols-at c, symbols-in c, start (c .before) .pre)
 
--- src/lib.rt:163:37
 add-run-kept : tie.Need-add-run-kept Inv-loop μ-loop
-add-run-kept c = search needs
+add-run-kept c = omega (arith, symbols-at c, symbols-in c, start (c .before) .pre)
 
--- src/lib.rt:163:61
 mul-run-kept-2 : tie.Need-mul-run-kept-2 Inv-loop μ-loop
-mul-run-kept-2 c = search needs
+mul-run-kept-2 c = omega (arith, values-at c, values-in c, start (c .before) .pre)
 
--- src/lib.rt:163:56
 add-run-kept-2 : tie.Need-add-run-kept-2 Inv-loop μ-loop
-add-run-kept-2 c = search needs
+add-run-kept-2 c = omega (arith, values-at c, values-in c, start (c .before) .pre)
 
--- src/lib.rt:163:12
 run-kept-requires : tie.Need-run-kept-requires Inv-loop μ-loop
-run-kept-requires c κs = search needs
+run-kept-requires c κs =
+    let begin = start (c .before) in
+    let a = begin .args in
+    let i = c .before .loop .i in
+    (
+      omega arith,
+      (
+        omega (arith, symbols-at c, symbols-in c, begin .pre),
+        (
+          omega (arith, values-at c, values-in c, begin .pre),
+          λ j h.
+              subst⁻¹ (λ (w : ℕ). symbolPrice (at (a .symbols .now) w) ≡ true) (ap (λ (p : ℕ). a .from + p + j) (symbols-at c) ∙ add-assoc (a .from) (i * 2 ^ a .l) j)
+              (begin .pre .1 .1 .1 (i * 2 ^ a .l + j) (omega (arith, symbols-in c))),
+        ),
+      ),
+    )
 
--- src/lib.rt:164:13
 add-i : tie.Need-add-i Inv-loop μ-loop
 add-i c = search needs
 
--- src/lib.rt:162:5
 loop-less : tie.Need-loop-less Inv-loop μ-loop
 loop-less c = search needs
 
--- src/lib.rt:162:5
 loop-again : tie.Need-loop-again Inv-loop μ-loop
-loop-again c = search needs
+loop-again c =
+    let inv = c .before .before .before .loop .inv in
+    (omega arith, inv .1, inv .2, inv .3, each-more _ _ (inv .4) (sym (told (c .before)) ∙ c .if1 .taken))
 
--- src/lib.rt:166:13
 returns : tie.Need-returns Inv-loop μ-loop
-returns c = search needs
+returns c =
+    let loop = c .before .before .before .loop in
+    sym (each-fails _ _ (loop .i) (lt-of-lt-of-le (c .before .before .loop-test .taken) (le-of-eq (loop .inv .1))) (sym (told (c .before)) ∙ c .if1 .left))
 
--- src/lib.rt:143:1
 returns-2 : tie.Need-returns-2 Inv-loop μ-loop
-returns-2 c = search needs
+returns-2 c =
+    let a = start (c .before) .args in
+    sym
+    (subst (λ (n : ℕ). each n (λ j. each (2 ^ (a .l + a .bits)) (runKept (a .symbols .now) (a .ready .now) (a .from + j * 2 ^ a .l) (a .to + j * 2 ^ (a .l + a .bits)) (a .l) (a .bits))) ≡ true)
+    (omega (arith, c .before .loop .inv)) (c .before .loop .inv .4))
 
 pub octave-kept-spec : {M : Type 1} → statement M
 octave-kept-spec =

@@ -1,141 +1,207 @@
+-- `book_rows::run_kept` meets its contract: a line, two values, or fours. Assumes nothing.
+use Prim.Native.Nat.{ℕ, zero, suc, _+_, _-_, _*_, _%_, _^_, _<_, _≤_}
+use mathlib.Core.Path.{_≡_, sym, ap, ap₂, _∙_, subst, subst⁻¹}
+use mathlib.Core.Bool.{_&&_}
+use native.Mathlib.Omega.{arith}
+use native.Mathlib.Nat.{add-zero}
+use lib.Dec.{T}
+use lib.IntN.{pos}
+use lib.Ieee.{Float, add, ofInt, binary32}
+use lib.Pow.{pow-pos, pow-mono}
 use borrow.Author.Needs.{needs}
+use Rattle.costs.specs.Cost.{cost}
+use Rattle.prices.specs.Book.{at}
+use Rattle.prices.specs.Checks.{each}
+use Rattle.prices.proofs.Costs.{extra-exact, zero-extra, zero-sum-cost}
+use Rattle.book_rows.specs.Row.{above, lineKept, fourKept, lineFour, runKept}
+use Rattle.book_rows.proofs.Steps.{above-cost, price-above}
+use Rattle.book_rows.proofs.Runs.{both-zero, power-fours, run-line, run-pair, run-turns, run-lines}
 use Rattle.book_rows.proofs.run_kept.Statement.{statement}
 use Rattle.book_rows.proofs.run_kept.Tie as tie
-use Rattle.book_rows.proofs.run_kept.Reads as reads
-use Rattle.book_rows.proofs.run_kept.Lts as lts
-use Rattle.book_rows.proofs.differs.Reads as differs-reads
-use Rattle.book_rows.proofs.line_kept.Reads as line-kept-reads
-use Rattle.book_rows.proofs.lines_kept.Reads as lines-kept-reads
-use Rattle.book_rows.proofs.turns_kept.Reads as turns-kept-reads
-use Rattle.packing.proofs.power.Reads as power-reads
 
--- src/lib.rt:124:17
+-- the symbols' prices, where there is an extra bit
+above-at : (c : tie.Else1) (i : ℕ) → i < 2 ^ c .before .before .before .before .args .l → T (above (add binary32 (at (c .before .before .before .before .args .symbols .now) (c .before .before .before .before .args .from + i)) (ofInt binary32 (pos (c .before .before .before .before .args .bits)))))
+above-at c i h = price-above _ _ (c .before .before .before .before .pre .1 .1 .1 i h) (omega (arith, c .if1 .left))
+
+above-first : (c : tie.Else1) → T (above (add binary32 (at (c .before .before .before .before .args .symbols .now) (c .before .before .before .before .args .from)) (ofInt binary32 (pos (c .before .before .before .before .args .bits)))))
+above-first c =
+    let a = c .before .before .before .before .args in
+    subst (λ (w : ℕ). T (above (add binary32 (at (a .symbols .now) w) (ofInt binary32 (pos (a .bits)))))) (add-zero (a .from)) (above-at c 0 (pow-pos (a .l)))
+
+-- a run of two values
+one : (c : tie.Then2) → c .before .before .before .before .before .args .l + c .before .before .before .before .before .args .bits ≡ 1
+one c = omega (arith, c .before .if1 .left, c .if2 .taken)
+
+small-power : (l : ℕ) → l < 2 → l < 2 ^ l
+small-power zero h = omega arith
+small-power (suc zero) h = omega arith
+small-power (suc (suc l)) h = absurd (omega arith)
+
 int-to-float-extra : tie.Need-int-to-float-extra
-int-to-float-extra c = search needs
+int-to-float-extra c = extra-exact _ (omega arith)
 
--- src/lib.rt:126:52
 power-requires : tie.Need-power-requires
 power-requires c κs = search needs
 
--- src/lib.rt:126:52
 cast-line-kept : tie.Need-cast-line-kept
 cast-line-kept c = search needs
 
--- src/lib.rt:126:9
 line-kept-requires : tie.Need-line-kept-requires
-line-kept-requires c κs = search needs
+line-kept-requires c κs =
+    let start = c .before .before .before .before .before in
+    let a = start .args in
+    let none = c .before .if1 .taken in
+    let size = c .power .ensures in
+    let few : 2 ^ a .l ≤ 2 ^ 7 = pow-mono {j = 7} (omega arith) in
+    let same : 2 ^ (a .l + a .bits) ≡ 2 ^ a .l = ap (λ (k : ℕ). 2 ^ k) (omega arith) in
+    (
+      omega (arith, size),
+      (
+        omega (arith, size, start .pre),
+        (
+          omega (arith, size, same, start .pre),
+          λ i h.
+              subst⁻¹ (λ (n : ℕ). T (cost (add binary32 (at (a .symbols .now) (a .from + i)) (ofInt binary32 (pos n))))) none
+              (subst⁻¹ (λ (x : Float). T (cost (add binary32 (at (a .symbols .now) (a .from + i)) x))) zero-extra
+              (zero-sum-cost _ (start .pre .1 .1 .1 i (omega (arith, size))))),
+        ),
+      ),
+    )
 
--- src/lib.rt:126:9
 returns : tie.Need-returns
-returns c = search needs
+returns c =
+    let a = c .before .before .before .before .before .before .args in
+    let none = c .before .before .if1 .taken in
+    c .line-kept .ensures
+    ∙ ap₂ (λ (n b : ℕ). each n (lineKept (a .symbols .now) (a .ready .now) (a .from) (a .to) (ofInt binary32 (pos b)))) (c .before .power .ensures) none
+    ∙ run-line (a .symbols .now) (a .ready .now) (a .from) (a .to) (a .l)
+    ∙ sym (ap (λ (b : ℕ). each (2 ^ (a .l + b)) (runKept (a .symbols .now) (a .ready .now) (a .from) (a .to) (a .l) b)) none)
 
--- src/lib.rt:128:8
 add-if2 : tie.Need-add-if2
 add-if2 c = search needs
 
--- src/lib.rt:129:21
 mul-price : tie.Need-mul-price
 mul-price c = search needs
 
--- src/lib.rt:129:21
 shared-slice-read-price : tie.Need-shared-slice-read-price
-shared-slice-read-price c = search needs
+shared-slice-read-price c = omega (arith, c .before .before .before .before .before .before .pre, pow-pos (c .before .before .before .before .before .before .args .l))
 
--- src/lib.rt:130:24
 mul-differs : tie.Need-mul-differs
 mul-differs c = search needs
 
--- src/lib.rt:130:24
 shared-slice-read-differs : tie.Need-shared-slice-read-differs
-shared-slice-read-differs c = search needs
+shared-slice-read-differs c = omega (arith, c .before .before .before .before .before .before .before .pre, ap (λ (k : ℕ). 2 ^ k) (one (c .before .before)))
 
--- src/lib.rt:130:16
 differs-requires : tie.Need-differs-requires
-differs-requires c κs = search needs
+differs-requires c κs = above-cost _ (above-first (c .before .before .before))
 
--- src/lib.rt:130:58
 add-differs : tie.Need-add-differs
 add-differs c = search needs
 
--- src/lib.rt:130:52
 mul-differs-2 : tie.Need-mul-differs-2
 mul-differs-2 c = search needs
 
--- src/lib.rt:130:52
 shared-slice-read-differs-2 : tie.Need-shared-slice-read-differs-2
-shared-slice-read-differs-2 c = search needs
+shared-slice-read-differs-2 c = omega (arith, c .before .before .before .before .before .before .before .before .before .pre, ap (λ (k : ℕ). 2 ^ k) (one (c .before .before .before .before)))
 
--- src/lib.rt:130:44
 differs-requires-2 : tie.Need-differs-requires-2
-differs-requires-2 c κs = search needs
+differs-requires-2 c κs = above-cost _ (above-first (c .before .before .before .before .before))
 
--- src/lib.rt:130:16
 add-result : tie.Need-add-result
 add-result c = search needs
 
--- src/lib.rt:130:9
 returns-2 : tie.Need-returns-2
-returns-2 c = search needs
+returns-2 c =
+    let two = c .before .before .before .before .before in
+    let a = two .before .before .before .before .before .args in
+    let none : a .l ≡ 0 = omega (arith, two .before .if1 .left, two .if2 .taken) in
+    sym (both-zero (c .before .before .differs .result) (c .differs2 .result))
+    ∙ sym (ap₂ _&&_ (c .before .before .differs .ensures .0) (c .differs2 .ensures .0))
+    ∙ sym (run-pair (a .symbols .now) (a .ready .now) (a .from) (a .to) (a .bits))
+    ∙ sym (ap₂ (λ (n l : ℕ). each (2 ^ n) (runKept (a .symbols .now) (a .ready .now) (a .from) (a .to) l (a .bits))) (one two) none)
 
--- src/lib.rt:132:32
 add-power : tie.Need-add-power
 add-power c = search needs
 
--- src/lib.rt:132:32
 sub-power : tie.Need-sub-power
 sub-power c = search needs
 
--- src/lib.rt:132:17
 power-requires-2 : tie.Need-power-requires-2
 power-requires-2 c κs = search needs
 
--- src/lib.rt:132:17
 cast-fours : tie.Need-cast-fours
 cast-fours c = search needs
 
--- src/lib.rt:134:17
 mul-a : tie.Need-mul-a
 mul-a c = search needs
 
--- src/lib.rt:134:17
 shared-slice-read-a : tie.Need-shared-slice-read-a
-shared-slice-read-a c = search needs
+shared-slice-read-a c = omega (arith, c .before .before .before .before .before .before .before .before .pre, pow-pos (c .before .before .before .before .before .before .before .before .args .l))
 
--- src/lib.rt:135:25
 add-b : tie.Need-add-b
 add-b c = search needs
 
--- src/lib.rt:135:17
 mul-b : tie.Need-mul-b
 mul-b c = search needs
 
--- src/lib.rt:135:17
 shared-slice-read-b : tie.Need-shared-slice-read-b
-shared-slice-read-b c = search needs
+shared-slice-read-b c = omega (arith, c .before .before .before .before .before .before .before .before .before .pre, small-power (c .before .before .before .before .before .before .before .before .before .args .l) (c .before .before .if3 .taken))
 
--- src/lib.rt:136:9
 turns-kept-requires : tie.Need-turns-kept-requires
-turns-kept-requires c κs = search needs
+turns-kept-requires c κs =
+    let three = c .before .before in
+    let one = three .before .before .before in
+    let start = one .before .before .before .before in
+    let a = start .args in
+    (
+      omega (arith, three .before .power2 .ensures, power-fours (a .l + a .bits) (omega (arith, three .before .before .if2 .left)), start .pre),
+      (above-first one, above-at one (a .l) (small-power (a .l) (three .if3 .taken))),
+    )
 
--- src/lib.rt:136:9
 returns-3 : tie.Need-returns-3
-returns-3 c = search needs
+returns-3 c =
+    let three = c .before .before .before in
+    let start = three .before .before .before .before .before .before .before in
+    let a = start .args in
+    let x = add binary32 (at (a .symbols .now) (a .from)) (ofInt binary32 (pos (a .bits))) in
+    let y = add binary32 (at (a .symbols .now) (a .from + a .l)) (ofInt binary32 (pos (a .bits))) in
+    c .turns-kept .ensures
+    ∙ ap (λ (n : ℕ). each n (λ i. fourKept (a .ready .now) (a .to + 4 * i) x y x y)) (three .before .power2 .ensures)
+    ∙ run-turns (a .symbols .now) (a .ready .now) (a .from) (a .to) (a .bits) (a .l) (three .if3 .taken) (omega (arith, three .before .before .if2 .left))
 
--- src/lib.rt:138:17
 power-requires-3 : tie.Need-power-requires-3
 power-requires-3 c κs = search needs
 
--- src/lib.rt:138:17
 cast-lines : tie.Need-cast-lines
 cast-lines c = search needs
 
--- src/lib.rt:139:5
 lines-kept-requires : tie.Need-lines-kept-requires
-lines-kept-requires c κs = search needs
+lines-kept-requires c κs =
+    let three = c .before in
+    let one = three .before .before .before in
+    let start = one .before .before .before .before in
+    let a = start .args in
+    let lines = c .power3 .ensures in
+    let symbols = power-fours (a .l) (three .if3 .left) in
+    (
+      omega (arith, lines, pow-pos (a .l - 2)),
+      (
+        omega (arith, lines, symbols, start .pre),
+        (
+          omega (arith, three .before .power2 .ensures, power-fours (a .l + a .bits) (omega (arith, three .if3 .left)), start .pre),
+          λ i h. above-at one i (omega (arith, lines, symbols)),
+        ),
+      ),
+    )
 
--- src/lib.rt:117:1
 returns-4 : tie.Need-returns-4
-returns-4 c = search needs
+returns-4 c =
+    let three = c .before .before in
+    let start = three .before .before .before .before .before .before .before in
+    let a = start .args in
+    c .lines-kept .ensures
+    ∙ ap₂ (λ (n p : ℕ). each n (λ i. lineFour (a .symbols .now) (a .ready .now) (a .from + 4 * (i % p)) (a .to + 4 * i) (ofInt binary32 (pos (a .bits))))) (three .before .power2 .ensures) (c .before .power3 .ensures)
+    ∙ run-lines (a .symbols .now) (a .ready .now) (a .from) (a .to) (a .bits) (a .l) (three .if3 .left)
 
 pub run-kept-spec : {M : Type 1} → statement M
 run-kept-spec =
