@@ -3,7 +3,7 @@ use Prim.Native.Nat.{ℕ, zero, suc, _+_, _-_, _*_, _/_, _%_, _^_, _<_, _≤_}
 use mathlib.Core.Path.{_≡_, refl, sym, ap, ap₂, _∙_, subst, subst⁻¹}
 use mathlib.Core.Bool.{Bool, true, false, _&&_}
 use native.Mathlib.Omega.{arith}
-use native.Mathlib.Nat.{add-assoc, mul-assoc, one-mul, zero-mul, mul-le-mul-right, mul-add-mod-self-right, lt-of-lt-of-le, le-trans, le-of-eq, le-add-right}
+use native.Mathlib.Nat.{add-zero, sub-self, mul-assoc, one-mul, zero-mul, mul-le-mul-right, mul-add-mod-self-right, lt-of-lt-of-le, le-trans, le-of-eq, le-add-right}
 use mathlib.Core.List.{List}
 use lib.Arith.{digits-lt}
 use lib.IntN.{pos}
@@ -12,8 +12,8 @@ use lib.Ieee.{Float, fin, add, ofInt, binary32}
 use lib.Pow.{pow-add, pow-mono, pow-pos}
 use lib.Pow as Pow
 use Rattle.packing.specs.Hybrid.{topBit, symbolOf, extraBitsOf}
-use Rattle.packing.proofs.Hybrid.{top-unique, symbol-past, extra-bits-past, symbol-small, extra-bits-small}
-use Rattle.prices.specs.Book.{at, clusterPrice, clusterSymbol, clusterExtra}
+use Rattle.packing.proofs.Hybrid.{Valid, valid, top-unique, symbol-past, extra-bits-past, symbol-small, extra-bits-small}
+use Rattle.prices.specs.Book.{at, clusterPrice, clusterSymbol, clusterExtra, clusterValid}
 use Rattle.prices.specs.Checks.{each, sameBits}
 use Rattle.prices.proofs.Each.{each-run, each-same}
 use Rattle.prices.proofs.Costs.{zero-extra}
@@ -76,6 +76,10 @@ module _ (configs : List ℕ) (symbols ready : List Float) (k s m l : ℕ) (es :
   abbrev keptAt : ℕ → Bool
   keptAt w = sameBits (at ready (256 * k + w)) (clusterPrice configs symbols k w)
 
+  pub config-is : clusterValid configs k ≡ true → Valid s m l
+  unfolding clusterValid
+  config-is ok = valid s m l (rw (es, em, el) at ok)
+
   head-price : (v : ℕ) → v < 2 ^ s → clusterPrice configs symbols k v ≡ add binary32 (at symbols (128 * k + v)) (fin false 0 (pos 0))
   unfolding clusterPrice clusterSymbol clusterExtra
   head-price v h = rw (es, em, el, symbol-small s m l v h, extra-bits-small s m l v h, zero-extra)
@@ -84,21 +88,51 @@ module _ (configs : List ℕ) (symbols ready : List Float) (k s m l : ℕ) (es :
   unfolding lineKept
   head-all = each-same (lineKept symbols ready (128 * k) (256 * k) (fin false 0 (pos 0))) keptAt (2 ^ s) (λ i h. ap (sameBits (at ready (256 * k + i))) (sym (head-price i h)))
 
-  module _ (e from : ℕ) (past : s ≤ m + l + e) (start : from ≡ 128 * k + (2 ^ s + (m + l + e - s) * 2 ^ (m + l))) where
-    run-price : (i t : ℕ) → i < 2 ^ m → t < 2 ^ (l + e) → clusterPrice configs symbols k (2 ^ (m + l + e) + (i * 2 ^ (l + e) + t)) ≡ add binary32 (at symbols (from + i * 2 ^ l + t % 2 ^ l)) (ofInt binary32 (pos e))
+  module _ (n e from : ℕ) (whole : n ≡ m + l + e) (past : s ≤ n) (start : from ≡ 128 * k + (2 ^ s + (n - s) * 2 ^ (m + l))) where
+    run-price : (i t : ℕ) → i < 2 ^ m → t < 2 ^ (l + e) → clusterPrice configs symbols k (2 ^ n + (i * 2 ^ (l + e) + t)) ≡ add binary32 (at symbols (from + i * 2 ^ l + t % 2 ^ l)) (ofInt binary32 (pos e))
     unfolding clusterPrice clusterSymbol clusterExtra
     run-price i t hi ht =
+        let symbol = run-symbol s m l e i t (subst (λ (j : ℕ). s ≤ j) whole past) hi ht in
         rw (es, em, el)
         (ap₂ (λ (w x : ℕ). add binary32 (at symbols w) (ofInt binary32 (pos x)))
-        (ap (λ (w : ℕ). 128 * k + w) (run-symbol s m l e i t past hi ht) ∙ omega (arith, start))
-        (run-extra s m l e i t past hi ht))
+        (ap (λ (w : ℕ). 128 * k + w) (subst⁻¹ (λ (j : ℕ). symbolOf s m l (2 ^ j + (i * 2 ^ (l + e) + t)) ≡ 2 ^ s + (j - s) * 2 ^ (m + l) + i * 2 ^ l + t % 2 ^ l) whole symbol) ∙ omega (arith, start))
+        (subst⁻¹ (λ (j : ℕ). extraBitsOf s m l (2 ^ j + (i * 2 ^ (l + e) + t)) ≡ e) whole (run-extra s m l e i t (subst (λ (j : ℕ). s ≤ j) whole past) hi ht)))
 
-    pub octave-all : each (2 ^ m) (λ i. each (2 ^ (l + e)) (runKept symbols ready (from + i * 2 ^ l) (256 * k + 2 ^ (m + l + e) + i * 2 ^ (l + e)) l e)) ≡ each (2 ^ (m + l + e)) (λ w. sameBits (at ready (256 * k + (2 ^ (m + l + e) + w))) (clusterPrice configs symbols k (2 ^ (m + l + e) + w)))
+    octave-all : each (2 ^ m) (λ i. each (2 ^ (l + e)) (runKept symbols ready (from + i * 2 ^ l) (256 * k + 2 ^ n + i * 2 ^ (l + e)) l e)) ≡ each (2 ^ n) (λ w. keptAt (2 ^ n + w))
     unfolding runKept
     octave-all =
         each-same _ _ (2 ^ m)
         (λ i hi.
-        each-same (runKept symbols ready (from + i * 2 ^ l) (256 * k + 2 ^ (m + l + e) + i * 2 ^ (l + e)) l e) (λ t. keptAt (2 ^ (m + l + e) + (i * 2 ^ (l + e) + t))) (2 ^ (l + e))
+        each-same (runKept symbols ready (from + i * 2 ^ l) (256 * k + 2 ^ n + i * 2 ^ (l + e)) l e) (λ t. keptAt (2 ^ n + (i * 2 ^ (l + e) + t))) (2 ^ (l + e))
         (λ t ht. ap₂ (λ (w : ℕ) (x : Float). sameBits (at ready w) x) (omega arith) (sym (run-price i t hi ht))))
-        ∙ sym (each-blocks (λ w. keptAt (2 ^ (m + l + e) + w)) (2 ^ (l + e)) (2 ^ m))
-        ∙ ap (λ (n : ℕ). each n (λ w. keptAt (2 ^ (m + l + e) + w))) (sym (pow-add 2 m (l + e)) ∙ ap (λ (n : ℕ). 2 ^ n) (omega arith))
+        ∙ sym (each-blocks (λ w. keptAt (2 ^ n + w)) (2 ^ (l + e)) (2 ^ m))
+        ∙ ap (λ (j : ℕ). each j (λ w. keptAt (2 ^ n + w))) (sym (pow-add 2 m (l + e)) ∙ ap (λ (j : ℕ). 2 ^ j) (omega arith))
+
+    -- the values below 2 ^ n, then those with top bit n
+    pub octave-step : (b : Bool) → b ≡ each (2 ^ m) (λ i. each (2 ^ (l + e)) (runKept symbols ready (from + i * 2 ^ l) (256 * k + 2 ^ n + i * 2 ^ (l + e)) l e))
+        → each (2 ^ n) (λ w. sameBits (at ready (256 * k + w)) (clusterPrice configs symbols k w)) ≡ true
+        → each (2 ^ (n + 1)) (λ w. sameBits (at ready (256 * k + w)) (clusterPrice configs symbols k w)) ≡ b
+    octave-step b told below =
+        let double : 2 ^ (n + 1) ≡ 2 ^ n + 2 ^ n = pow-add 2 n 1 ∙ omega arith in
+        rw double (each-run keptAt (2 ^ n) (2 ^ n) ∙ ap₂ _&&_ below (sym octave-all ∙ sym told))
+
+-- the symbols of the values with top bit n are among the 128
+pub octave-room : (s m l : ℕ) → Valid s m l → (n : ℕ) → n < 8 → s ≤ n → 2 ^ s + (n - s) * 2 ^ (m + l) + 2 ^ (m + l) ≤ 128
+octave-room s m l ok n small past =
+    let blocks : suc (n - s) * 2 ^ (m + l) ≤ (17 - s) * 2 ^ (m + l) = mul-le-mul-right (2 ^ (m + l)) (omega arith) in
+    omega (arith, ok .room)
+
+-- the first symbols after 2 ^ s, and those of the next octave
+pub first-base : (s x : ℕ) → 2 ^ s ≡ 2 ^ s + (s - s) * x
+first-base s x = sym (ap (λ (d : ℕ). 2 ^ s + d * x) (sub-self s) ∙ ap (λ (d : ℕ). 2 ^ s + d) (zero-mul x) ∙ add-zero (2 ^ s))
+
+pub next-base : (s n x : ℕ) → s ≤ n → (n + 1 - s) * x ≡ (n - s) * x + x
+next-base s n x h =
+    let more : n + 1 - s ≡ suc (n - s) = omega arith in
+    rw more (omega arith)
+
+-- what fails below a number fails below a greater one
+pub each-cut : (p : ℕ → Bool) (a c : ℕ) → a ≤ c → each a p ≡ false → each c p ≡ false
+each-cut p a c h e =
+    let more : c ≡ a + (c - a) = omega arith in
+    rw more (each-run p a (c - a) ∙ ap (λ (b : Bool). b && each (c - a) (λ i. p (a + i))) e)

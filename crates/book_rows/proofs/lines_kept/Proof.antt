@@ -85,8 +85,7 @@ add-four-kept c = search needs
 four-kept-requires : tie.Need-four-kept-requires Inv-loop μ-loop
 four-kept-requires c κs =
     let inl = c .before .before .before .before in
-    let a = inl .before .before .before .before .args in
-    (
+    let a = inl .before .before .before .before .args in (
       omega arith,
       (
         subst (λ (w : ℕ). T (above (add binary32 (at (a .symbols .now) w) (a .extra)))) (add-zero _) (priced inl 0 (omega arith)),

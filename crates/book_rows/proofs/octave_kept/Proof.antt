@@ -69,14 +69,13 @@ cast-count c = search needs
 
 loop-holds : tie.Need-loop-holds Inv-loop μ-loop
 unfolding each
-loop-holds c =
-    (
-      omega arith,
-      c .before .before .power .ensures,
-      c .before .power2 .ensures,
-      c .power3 .ensures,
-      refl,
-    )
+loop-holds c = (
+  omega arith,
+  c .before .before .power .ensures,
+  c .before .power2 .ensures,
+  c .power3 .ensures,
+  refl,
+)
 
 mul-run-kept : tie.Need-mul-run-kept Inv-loop μ-loop
 mul-run-kept c = omega (arith, symbols-at c, symbols-in c, start (c .before) .pre)
@@ -94,8 +93,7 @@ run-kept-requires : tie.Need-run-kept-requires Inv-loop μ-loop
 run-kept-requires c κs =
     let begin = start (c .before) in
     let a = begin .args in
-    let i = c .before .loop .i in
-    (
+    let i = c .before .loop .i in (
       omega arith,
       (
         omega (arith, symbols-at c, symbols-in c, begin .pre),

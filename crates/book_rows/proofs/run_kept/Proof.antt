@@ -53,8 +53,7 @@ line-kept-requires c κs =
     let none = c .before .if1 .taken in
     let size = c .power .ensures in
     let few : 2 ^ a .l ≤ 2 ^ 7 = pow-mono {j = 7} (omega arith) in
-    let same : 2 ^ (a .l + a .bits) ≡ 2 ^ a .l = ap (λ (k : ℕ). 2 ^ k) (omega arith) in
-    (
+    let same : 2 ^ (a .l + a .bits) ≡ 2 ^ a .l = ap (λ (k : ℕ). 2 ^ k) (omega arith) in (
       omega (arith, size),
       (
         omega (arith, size, start .pre),
@@ -152,8 +151,7 @@ turns-kept-requires c κs =
     let three = c .before .before in
     let one = three .before .before .before in
     let start = one .before .before .before .before in
-    let a = start .args in
-    (
+    let a = start .args in (
       omega (arith, three .before .power2 .ensures, power-fours (a .l + a .bits) (omega (arith, three .before .before .if2 .left)), start .pre),
       (above-first one, above-at one (a .l) (small-power (a .l) (three .if3 .taken))),
     )
@@ -182,8 +180,7 @@ lines-kept-requires c κs =
     let start = one .before .before .before .before in
     let a = start .args in
     let lines = c .power3 .ensures in
-    let symbols = power-fours (a .l) (three .if3 .left) in
-    (
+    let symbols = power-fours (a .l) (three .if3 .left) in (
       omega (arith, lines, pow-pos (a .l - 2)),
       (
         omega (arith, lines, symbols, start .pre),

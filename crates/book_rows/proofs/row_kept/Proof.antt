@@ -1,0 +1,249 @@
+-- `book_rows::row_kept` meets its contract: the values below 2 ^ s, and then one octave after the other. Assumes nothing.
+use Prim.Native.Nat.{ℕ, _+_, _-_, _*_, _^_, _≤_}
+use mathlib.Core.Path.{_≡_, refl, sym, ap, ap₂, _∙_, subst, subst⁻¹}
+use mathlib.Core.Bool.{true, false}
+use native.Mathlib.Omega.{arith}
+use native.Mathlib.Nat.{le-of-eq}
+use lib.ListN.{getD}
+use lib.IntN.{pos}
+use lib.Ieee.{fin, ofBits}
+use lib.Pow.{pow-mono}
+use Rattle.packing.proofs.Hybrid.{Valid}
+use Rattle.prices.specs.Book.{at, clusterPrice}
+use Rattle.prices.specs.Checks.{each, symbolPrice, sameBits, rowKept}
+use Rattle.prices.proofs.Costs.{zero-sum-cost}
+use Rattle.book_rows.specs.Row.{lineKept, runKept}
+use Rattle.book_rows.proofs.Octave.{config-is, head-all, octave-step, octave-room, first-base, next-base, each-cut}
+use borrow.Author.Needs.{needs}
+use borrow.Author.Tests.{not-true, not-false}
+use Rattle.book_rows.proofs.row_kept.Statement.{statement}
+use Rattle.book_rows.proofs.row_kept.Tie as tie
+
+abbrev Inv-loop : tie.InvT-loop
+Inv-loop configs symbols ready cluster m l n₀ small from₀ n from =
+    (getD configs (3 * cluster) 0 ≤ n)
+    × (n ≤ 8)
+    × (from ≡ 128 * cluster + (2 ^ getD configs (3 * cluster) 0 + (n - getD configs (3 * cluster) 0) * 2 ^ (m + l)))
+    × (each (2 ^ n) (λ w. sameBits (at ready (256 * cluster + w)) (clusterPrice configs symbols cluster w)) ≡ true)
+
+abbrev μ-loop : tie.MeasureT-loop
+μ-loop configs symbols ready cluster m l n₀ small from₀ n from = 8 - n
+
+abbrev first : tie.At-loop Inv-loop μ-loop → tie.After-config-of Inv-loop μ-loop
+first c = c .before .before .before .before
+
+-- the configuration (s, m, l)
+abbrev start : tie.After-config-of Inv-loop μ-loop → tie.Start Inv-loop μ-loop
+start c = c .before .before .before .before
+
+abbrev s-of : tie.After-config-of Inv-loop μ-loop → ℕ
+s-of c = getD (start c .args .configs .now) (3 * start c .args .cluster) 0
+
+abbrev m-of : tie.After-config-of Inv-loop μ-loop → ℕ
+m-of c = c .config-of .result .«msb_in_token»
+
+abbrev l-of : tie.After-config-of Inv-loop μ-loop → ℕ
+l-of c = c .config-of .result .«lsb_in_token»
+
+sizes : (c : tie.After-config-of Inv-loop μ-loop) → Valid (s-of c) (m-of c) (l-of c)
+sizes c =
+    let a = start c .args in
+    config-is (a .configs .now) (a .symbols .now) (a .ready .now) (a .cluster) (s-of c) (m-of c) (l-of c) refl (sym (c .config-of .ensures .1 .0)) (sym (c .config-of .ensures .1 .1)) (start c .pre .valid)
+
+-- the values below 2 ^ s
+headed : (c : tie.After-power Inv-loop μ-loop) → c .power .result ≡ 2 ^ s-of (c .before)
+headed c = c .power .ensures ∙ ap (λ (n : ℕ). 2 ^ n) (c .before .config-of .ensures .0)
+
+head-told : (c : tie.After-line-kept Inv-loop μ-loop) → c .line-kept .result ≡ each (2 ^ s-of (c .before .before)) (λ w. sameBits (at (start (c .before .before) .args .ready .now) (256 * start (c .before .before) .args .cluster + w)) (clusterPrice (start (c .before .before) .args .configs .now) (start (c .before .before) .args .symbols .now) (start (c .before .before) .args .cluster) w))
+unfolding ofBits
+head-told c =
+    let f = c .before .before in
+    let a = start f .args in
+    c .line-kept .ensures
+    ∙ ap (λ (n : ℕ). each n (lineKept (a .symbols .now) (a .ready .now) (128 * a .cluster) (256 * a .cluster) (fin false 0 (pos 0)))) (headed (c .before))
+    ∙ head-all (a .configs .now) (a .symbols .now) (a .ready .now) (a .cluster) (s-of f) (m-of f) (l-of f) refl (sym (f .config-of .ensures .1 .0)) (sym (f .config-of .ensures .1 .1))
+
+-- the values with top bit n
+whole : (c : tie.At-loop Inv-loop μ-loop) → c .loop .n ≡ m-of (first c) + l-of (first c) + (c .loop .n - m-of (first c) - l-of (first c))
+whole c = omega (arith, sizes (first c), c .loop .inv .0)
+
+stepped : (c : tie.After-octave-kept Inv-loop μ-loop) → each (2 ^ (c .before .before .before .loop .n + 1)) (λ w. sameBits (at (start (first (c .before .before .before)) .args .ready .now) (256 * start (first (c .before .before .before)) .args .cluster + w)) (clusterPrice (start (first (c .before .before .before)) .args .configs .now) (start (first (c .before .before .before)) .args .symbols .now) (start (first (c .before .before .before)) .args .cluster) w)) ≡ c .octave-kept .result
+stepped c =
+    let at-loop = c .before .before .before in
+    let f = first at-loop in
+    let a = start f .args in
+    let n = at-loop .loop .n in
+    let inv = at-loop .loop .inv in
+    let e = n - m-of f - l-of f in
+    octave-step (a .configs .now) (a .symbols .now) (a .ready .now) (a .cluster) (s-of f) (m-of f) (l-of f) refl (sym (f .config-of .ensures .1 .0)) (sym (f .config-of .ensures .1 .1)) n e (at-loop .loop .from) (whole at-loop) (inv .0) (inv .2) (c .octave-kept .result)
+    (c .octave-kept .ensures
+    ∙ ap (λ (x : ℕ). each (2 ^ m-of f) (λ i. each (2 ^ (l-of f + e)) (runKept (a .symbols .now) (a .ready .now) (at-loop .loop .from + i * 2 ^ l-of f) (256 * a .cluster + x + i * 2 ^ (l-of f + e)) (l-of f) e))) (c .before .power2 .ensures))
+    (inv .3)
+
+room : (c : tie.In-loop Inv-loop μ-loop) → 2 ^ s-of (first (c .before)) + (c .before .loop .n - s-of (first (c .before))) * 2 ^ (m-of (first (c .before)) + l-of (first (c .before))) + 2 ^ (m-of (first (c .before)) + l-of (first (c .before))) ≤ 128
+room c = octave-room (s-of (first (c .before))) _ _ (sizes (first (c .before))) (c .before .loop .n) (c .loop-test .taken) (c .before .loop .inv .0)
+
+config-of-requires : tie.Need-config-of-requires Inv-loop μ-loop
+config-of-requires c κs = search needs
+
+power-requires : tie.Need-power-requires Inv-loop μ-loop
+power-requires c κs = omega (arith, sizes c, c .config-of .ensures)
+
+cast-small : tie.Need-cast-small Inv-loop μ-loop
+cast-small c = search needs
+
+mul-line-kept : tie.Need-mul-line-kept Inv-loop μ-loop
+mul-line-kept c = search needs
+
+mul-line-kept-2 : tie.Need-mul-line-kept-2 Inv-loop μ-loop
+mul-line-kept-2 c = search needs
+
+line-kept-requires : tie.Need-line-kept-requires Inv-loop μ-loop
+unfolding ofBits
+line-kept-requires c κs =
+    let row = start (c .before) .pre in
+    let small : 2 ^ s-of (c .before) ≤ 2 ^ 6 = pow-mono (sizes (c .before) .small) in
+    let size = headed c in (
+      omega (arith, size),
+      (
+        omega (arith, size, row .priced),
+        (
+          omega (arith, size, row .kept),
+          λ i h. zero-sum-cost _ (row .prices i (omega (arith, size))),
+        ),
+      ),
+    )
+
+returns : tie.Need-returns Inv-loop μ-loop
+unfolding rowKept
+returns c =
+    sym (each-cut _ (2 ^ s-of (c .before .before .before)) 256 (pow-mono {j = 8} (omega (arith, sizes (c .before .before .before)))) (sym (head-told (c .before)) ∙ not-true _ (c .if1 .taken)))
+
+mul-from : tie.Need-mul-from Inv-loop μ-loop
+mul-from c = search needs
+
+add-from : tie.Need-add-from Inv-loop μ-loop
+add-from c = search needs
+
+loop-holds : tie.Need-loop-holds Inv-loop μ-loop
+loop-holds c =
+    let f = c .before .before .before in
+    let e = f .config-of .ensures .0 in (
+      le-of-eq (sym e),
+      omega (arith, sizes f, e),
+      ap (λ (x : ℕ). 128 * start f .args .cluster + x) (headed (c .before .before) ∙ first-base (s-of f) (2 ^ (m-of f + l-of f)) ∙ ap (λ (n : ℕ). 2 ^ s-of f + (n - s-of f) * 2 ^ (m-of f + l-of f)) (sym e)),
+      ap (λ (n : ℕ). each (2 ^ n) (λ w. sameBits (at (start f .args .ready .now) (256 * start f .args .cluster + w)) (clusterPrice (start f .args .configs .now) (start f .args .symbols .now) (start f .args .cluster) w))) e ∙ sym (head-told (c .before)) ∙ not-false _ (c .if1 .left),
+    )
+
+mul-to : tie.Need-mul-to Inv-loop μ-loop
+mul-to c = search needs
+
+power-requires-2 : tie.Need-power-requires-2 Inv-loop μ-loop
+power-requires-2 c κs = search needs
+
+cast-to : tie.Need-cast-to Inv-loop μ-loop
+cast-to c = search needs
+
+add-to : tie.Need-add-to Inv-loop μ-loop
+add-to c = search needs
+
+sub-octave-kept : tie.Need-sub-octave-kept Inv-loop μ-loop
+sub-octave-kept c = omega (arith, sizes (first (c .before .before)))
+
+sub-octave-kept-2 : tie.Need-sub-octave-kept-2 Inv-loop μ-loop
+sub-octave-kept-2 c = omega (arith, sizes (first (c .before .before)))
+
+octave-kept-requires : tie.Need-octave-kept-requires Inv-loop μ-loop
+octave-kept-requires c κs =
+    let loop = c .before .before .loop in
+    let f = first (c .before .before) in
+    let a = start f .args in
+    let row = start f .pre in
+    let n = loop .n in
+    let few : 2 ^ n ≤ 2 ^ 7 = pow-mono {j = 7} (omega arith) in
+    let same : 2 ^ n ≡ 2 ^ (m-of f + l-of f + (n - m-of f - l-of f)) = ap (λ (k : ℕ). 2 ^ k) (whole (c .before .before)) in (
+      omega (arith, whole (c .before .before)),
+      (
+        omega (arith, room (c .before), loop .inv .2, row .priced),
+        (
+          omega (arith, c .power2 .ensures, few, same, row .kept),
+          λ i h.
+              subst⁻¹ (λ (w : ℕ). symbolPrice (at (a .symbols .now) w) ≡ true) (omega (arith, loop .inv .2))
+              (row .prices (2 ^ s-of f + (n - s-of f) * 2 ^ (m-of f + l-of f) + i) (omega (arith, room (c .before)))),
+        ),
+      ),
+    )
+
+add-power : tie.Need-add-power Inv-loop μ-loop
+add-power c = omega (arith, sizes (first (c .before .before .before .before)))
+
+power-requires-3 : tie.Need-power-requires-3 Inv-loop μ-loop
+power-requires-3 c κs = omega (arith, sizes (first (c .before .before .before .before)))
+
+cast-from : tie.Need-cast-from Inv-loop μ-loop
+cast-from c = search needs
+
+add-from-2 : tie.Need-add-from-2 Inv-loop μ-loop
+add-from-2 c = omega (arith, c .power3 .ensures, room (c .before .before .before .before), start (first (c .before .before .before .before .before)) .pre .priced)
+
+add-n : tie.Need-add-n Inv-loop μ-loop
+add-n c = search needs
+
+loop-less : tie.Need-loop-less Inv-loop μ-loop
+loop-less c = search needs
+
+loop-again : tie.Need-loop-again Inv-loop μ-loop
+loop-again c =
+    let at-loop = c .before .before .before .before .before in
+    let f = first at-loop in (
+      omega arith,
+      omega arith,
+      omega (arith, c .power3 .ensures, at-loop .loop .inv .2, next-base (s-of f) (at-loop .loop .n) (2 ^ (m-of f + l-of f)) (at-loop .loop .inv .0)),
+      stepped (c .before .before) ∙ c .before .if2 .taken,
+    )
+
+returns-2 : tie.Need-returns-2 Inv-loop μ-loop
+unfolding rowKept
+returns-2 c = sym (each-cut _ (2 ^ (c .before .before .before .before .loop .n + 1)) 256 (pow-mono {j = 8} (omega arith)) (stepped (c .before) ∙ c .if2 .left))
+
+returns-3 : tie.Need-returns-3 Inv-loop μ-loop
+unfolding rowKept
+returns-3 c =
+    let a = start (first (c .before)) .args in
+    let end : c .before .loop .n ≡ 8 = omega arith in
+    sym
+    (subst (λ (n : ℕ). each (2 ^ n) (λ w. sameBits (at (a .ready .now) (256 * a .cluster + w)) (clusterPrice (a .configs .now) (a .symbols .now) (a .cluster) w)) ≡ true)
+    end (c .before .loop .inv .3))
+
+pub row-kept-spec : {M : Type 1} → statement M
+row-kept-spec =
+    tie.close
+    (tie.spec
+    Inv-loop
+    μ-loop
+    config-of-requires
+    power-requires
+    cast-small
+    mul-line-kept
+    mul-line-kept-2
+    line-kept-requires
+    returns
+    mul-from
+    add-from
+    loop-holds
+    mul-to
+    power-requires-2
+    cast-to
+    add-to
+    sub-octave-kept
+    sub-octave-kept-2
+    octave-kept-requires
+    add-power
+    power-requires-3
+    cast-from
+    add-from-2
+    add-n
+    loop-less
+    loop-again
+    returns-2
+    returns-3)
