@@ -1,5 +1,5 @@
 -- The values with top bit n = m + l + e: 2 ^ m runs of 2 ^ (l + e) values each, e extra bits.
-use Prim.Native.Nat.{ℕ, zero, suc, _+_, _-_, _*_, _/_, _%_, _^_, _<_, _≤_}
+use Prim.Native.Nat.{ℕ, suc, _+_, _-_, _*_, _/_, _%_, _^_, _<_, _≤_}
 use mathlib.Core.Path.{_≡_, refl, sym, ap, ap₂, _∙_, subst, subst⁻¹}
 use mathlib.Core.Bool.{Bool, true, false, _&&_}
 use native.Mathlib.Omega.{arith}
@@ -9,23 +9,15 @@ use lib.Arith.{digits-lt}
 use lib.IntN.{pos}
 use lib.ListN.{getD}
 use lib.Ieee.{Float, fin, add, ofInt, binary32}
-use lib.Pow.{pow-add, pow-mono, pow-pos}
+use lib.Pow.{pow-add, pow-mono}
 use lib.Pow as Pow
 use Rattle.packing.specs.Hybrid.{topBit, symbolOf, extraBitsOf}
 use Rattle.packing.proofs.Hybrid.{Valid, valid, top-unique, symbol-past, extra-bits-past, symbol-small, extra-bits-small}
 use Rattle.prices.specs.Book.{at, clusterPrice, clusterSymbol, clusterExtra, clusterValid}
 use Rattle.prices.specs.Checks.{each, sameBits}
-use Rattle.prices.proofs.Each.{each-run, each-same}
+use Rattle.prices.proofs.Each.{each-run, each-blocks, each-same}
 use Rattle.prices.proofs.Costs.{zero-extra}
-use Rattle.book_rows.specs.Row.{lineKept, runKept}
-
--- n blocks of c
-pub each-blocks : (p : ℕ → Bool) (c n : ℕ) → each (n * c) p ≡ each n (λ i. each c (λ t. p (i * c + t)))
-unfolding each
-each-blocks p c zero = rw (zero-mul c) refl
-each-blocks p c (suc n) =
-    let more : suc n * c ≡ n * c + c = omega arith in
-    rw more (each-run p (n * c) c ∙ ap (λ (b : Bool). b && each c (λ t. p (n * c + t))) (each-blocks p c n))
+use Rattle.book_rows.specs.Row.{lineKept, runKept, octaveKept}
 
 -- run i of 2 ^ m lies within them all
 pub run-within : (m k i : ℕ) → i < 2 ^ m → i * 2 ^ k + 2 ^ k ≤ 2 ^ (m + k)
@@ -72,9 +64,17 @@ module _ (s m l e i t : ℕ) (past : s ≤ m + l + e) (hi : i < 2 ^ m) (ht : t <
 
 -- ---- the ready prices of cluster k, whose configuration is (s, m, l)
 
+-- ready price w of the cluster is the price
+abbrev pub keptAt : List ℕ → List Float → List Float → ℕ → ℕ → Bool
+keptAt configs symbols ready k w = sameBits (at ready (256 * k + w)) (clusterPrice configs symbols k w)
+
+-- the first symbol of the values with top bit n
+abbrev pub base : ℕ → ℕ → ℕ → ℕ → ℕ
+base s m l n = 2 ^ s + (n - s) * 2 ^ (m + l)
+
 module _ (configs : List ℕ) (symbols ready : List Float) (k s m l : ℕ) (es : getD configs (3 * k) 0 ≡ s) (em : getD configs (3 * k + 1) 0 ≡ m) (el : getD configs (3 * k + 2) 0 ≡ l) where
-  abbrev keptAt : ℕ → Bool
-  keptAt w = sameBits (at ready (256 * k + w)) (clusterPrice configs symbols k w)
+  abbrev kept : ℕ → Bool
+  kept = keptAt configs symbols ready k
 
   pub config-is : clusterValid configs k ≡ true → Valid s m l
   unfolding clusterValid
@@ -84,11 +84,11 @@ module _ (configs : List ℕ) (symbols ready : List Float) (k s m l : ℕ) (es :
   unfolding clusterPrice clusterSymbol clusterExtra
   head-price v h = rw (es, em, el, symbol-small s m l v h, extra-bits-small s m l v h, zero-extra)
 
-  pub head-all : each (2 ^ s) (lineKept symbols ready (128 * k) (256 * k) (fin false 0 (pos 0))) ≡ each (2 ^ s) (λ w. sameBits (at ready (256 * k + w)) (clusterPrice configs symbols k w))
+  pub head-all : each (2 ^ s) (lineKept symbols ready (128 * k) (256 * k) (fin false 0 (pos 0))) ≡ each (2 ^ s) (keptAt configs symbols ready k)
   unfolding lineKept
-  head-all = each-same (lineKept symbols ready (128 * k) (256 * k) (fin false 0 (pos 0))) keptAt (2 ^ s) (λ i h. ap (sameBits (at ready (256 * k + i))) (sym (head-price i h)))
+  head-all = each-same (lineKept symbols ready (128 * k) (256 * k) (fin false 0 (pos 0))) kept (2 ^ s) (λ i h. ap (sameBits (at ready (256 * k + i))) (sym (head-price i h)))
 
-  module _ (n e from : ℕ) (whole : n ≡ m + l + e) (past : s ≤ n) (start : from ≡ 128 * k + (2 ^ s + (n - s) * 2 ^ (m + l))) where
+  module _ (n e from : ℕ) (whole : n ≡ m + l + e) (past : s ≤ n) (start : from ≡ 128 * k + base s m l n) where
     run-price : (i t : ℕ) → i < 2 ^ m → t < 2 ^ (l + e) → clusterPrice configs symbols k (2 ^ n + (i * 2 ^ (l + e) + t)) ≡ add binary32 (at symbols (from + i * 2 ^ l + t % 2 ^ l)) (ofInt binary32 (pos e))
     unfolding clusterPrice clusterSymbol clusterExtra
     run-price i t hi ht =
@@ -98,41 +98,35 @@ module _ (configs : List ℕ) (symbols ready : List Float) (k s m l : ℕ) (es :
         (ap (λ (w : ℕ). 128 * k + w) (subst⁻¹ (λ (j : ℕ). symbolOf s m l (2 ^ j + (i * 2 ^ (l + e) + t)) ≡ 2 ^ s + (j - s) * 2 ^ (m + l) + i * 2 ^ l + t % 2 ^ l) whole symbol) ∙ omega (arith, start))
         (subst⁻¹ (λ (j : ℕ). extraBitsOf s m l (2 ^ j + (i * 2 ^ (l + e) + t)) ≡ e) whole (run-extra s m l e i t (subst (λ (j : ℕ). s ≤ j) whole past) hi ht)))
 
-    octave-all : each (2 ^ m) (λ i. each (2 ^ (l + e)) (runKept symbols ready (from + i * 2 ^ l) (256 * k + 2 ^ n + i * 2 ^ (l + e)) l e)) ≡ each (2 ^ n) (λ w. keptAt (2 ^ n + w))
-    unfolding runKept
+    octave-all : octaveKept symbols ready from (256 * k + 2 ^ n) m l e ≡ each (2 ^ n) (λ w. kept (2 ^ n + w))
+    unfolding octaveKept runKept
     octave-all =
         each-same _ _ (2 ^ m)
         (λ i hi.
-        each-same (runKept symbols ready (from + i * 2 ^ l) (256 * k + 2 ^ n + i * 2 ^ (l + e)) l e) (λ t. keptAt (2 ^ n + (i * 2 ^ (l + e) + t))) (2 ^ (l + e))
+        each-same (runKept symbols ready (from + i * 2 ^ l) (256 * k + 2 ^ n + i * 2 ^ (l + e)) l e) (λ t. kept (2 ^ n + (i * 2 ^ (l + e) + t))) (2 ^ (l + e))
         (λ t ht. ap₂ (λ (w : ℕ) (x : Float). sameBits (at ready w) x) (omega arith) (sym (run-price i t hi ht))))
-        ∙ sym (each-blocks (λ w. keptAt (2 ^ n + w)) (2 ^ (l + e)) (2 ^ m))
-        ∙ ap (λ (j : ℕ). each j (λ w. keptAt (2 ^ n + w))) (sym (pow-add 2 m (l + e)) ∙ ap (λ (j : ℕ). 2 ^ j) (omega arith))
+        ∙ sym (each-blocks (λ w. kept (2 ^ n + w)) (2 ^ (l + e)) (2 ^ m))
+        ∙ ap (λ (j : ℕ). each j (λ w. kept (2 ^ n + w))) (sym (pow-add 2 m (l + e)) ∙ ap (λ (j : ℕ). 2 ^ j) (omega arith))
 
     -- the values below 2 ^ n, then those with top bit n
-    pub octave-step : (b : Bool) → b ≡ each (2 ^ m) (λ i. each (2 ^ (l + e)) (runKept symbols ready (from + i * 2 ^ l) (256 * k + 2 ^ n + i * 2 ^ (l + e)) l e))
-        → each (2 ^ n) (λ w. sameBits (at ready (256 * k + w)) (clusterPrice configs symbols k w)) ≡ true
-        → each (2 ^ (n + 1)) (λ w. sameBits (at ready (256 * k + w)) (clusterPrice configs symbols k w)) ≡ b
+    pub octave-step : (b : Bool) → b ≡ octaveKept symbols ready from (256 * k + 2 ^ n) m l e
+        → each (2 ^ n) (keptAt configs symbols ready k) ≡ true
+        → each (2 ^ (n + 1)) (keptAt configs symbols ready k) ≡ b
     octave-step b told below =
         let double : 2 ^ (n + 1) ≡ 2 ^ n + 2 ^ n = pow-add 2 n 1 ∙ omega arith in
-        rw double (each-run keptAt (2 ^ n) (2 ^ n) ∙ ap₂ _&&_ below (sym octave-all ∙ sym told))
+        rw double (each-run kept (2 ^ n) (2 ^ n) ∙ ap₂ _&&_ below (sym octave-all ∙ sym told))
 
 -- the symbols of the values with top bit n are among the 128
-pub octave-room : (s m l : ℕ) → Valid s m l → (n : ℕ) → n < 8 → s ≤ n → 2 ^ s + (n - s) * 2 ^ (m + l) + 2 ^ (m + l) ≤ 128
+pub octave-room : (s m l : ℕ) → Valid s m l → (n : ℕ) → n < 8 → s ≤ n → base s m l n + 2 ^ (m + l) ≤ 128
 octave-room s m l ok n small past =
     let blocks : suc (n - s) * 2 ^ (m + l) ≤ (17 - s) * 2 ^ (m + l) = mul-le-mul-right (2 ^ (m + l)) (omega arith) in
     omega (arith, ok .room)
 
--- the first symbols after 2 ^ s, and those of the next octave
-pub first-base : (s x : ℕ) → 2 ^ s ≡ 2 ^ s + (s - s) * x
-first-base s x = sym (ap (λ (d : ℕ). 2 ^ s + d * x) (sub-self s) ∙ ap (λ (d : ℕ). 2 ^ s + d) (zero-mul x) ∙ add-zero (2 ^ s))
+pub first-base : (s m l : ℕ) → 2 ^ s ≡ base s m l s
+first-base s m l =
+    sym (ap (λ (d : ℕ). 2 ^ s + d * 2 ^ (m + l)) (sub-self s) ∙ ap (λ (d : ℕ). 2 ^ s + d) (zero-mul (2 ^ (m + l))) ∙ add-zero (2 ^ s))
 
-pub next-base : (s n x : ℕ) → s ≤ n → (n + 1 - s) * x ≡ (n - s) * x + x
-next-base s n x h =
+pub next-base : (s m l n : ℕ) → s ≤ n → base s m l (n + 1) ≡ base s m l n + 2 ^ (m + l)
+next-base s m l n h =
     let more : n + 1 - s ≡ suc (n - s) = omega arith in
     rw more (omega arith)
-
--- what fails below a number fails below a greater one
-pub each-cut : (p : ℕ → Bool) (a c : ℕ) → a ≤ c → each a p ≡ false → each c p ≡ false
-each-cut p a c h e =
-    let more : c ≡ a + (c - a) = omega arith in
-    rw more (each-run p a (c - a) ∙ ap (λ (b : Bool). b && each (c - a) (λ i. p (a + i))) e)

@@ -3,23 +3,16 @@ use Prim.Native.Nat.{ℕ, zero, suc, _+_, _-_, _*_, _/_, _%_, _^_, _<_, _≤_}
 use mathlib.Core.Path.{_≡_, refl, sym, ap, ap₂, _∙_}
 use mathlib.Core.Bool.{Bool, _&&_}
 use native.Mathlib.Omega.{arith}
-use native.Mathlib.Nat.{zero-add, add-zero, mod-one, mod-lt, mod-eq-of-lt, mul-add-mod-self-right}
+use native.Mathlib.Nat.{add-zero, mod-one, mod-lt, mod-eq-of-lt, mul-add-mod-self-right}
 use mathlib.Core.List.{List}
-use lib.Dec.{eqb}
 use lib.IntN.{pos}
 use lib.Ieee.{Float, add, ofInt, binary32}
 use lib.Pow.{pow-add, pow-pos}
 use lib.Pow as Pow
-use borrow.Author.Tests.{ne-eqb}
 use Rattle.prices.specs.Book.{at}
 use Rattle.prices.specs.Checks.{each, sameBits}
-use Rattle.prices.proofs.Each.{each-same}
+use Rattle.prices.proofs.Each.{each-blocks, each-same}
 use Rattle.book_rows.specs.Row.{lineKept, fourKept, lineFour, runKept}
-use Rattle.book_rows.proofs.Octave.{each-blocks}
-
-pub both-zero : (a b : ℕ) → (eqb a 0 && eqb b 0) ≡ eqb (a + b) 0
-both-zero zero b = ap (λ (n : ℕ). eqb n 0) (sym (zero-add b))
-both-zero (suc a) b = rw (ne-eqb (suc a) 0 (λ e. omega arith)) (sym (ne-eqb (suc a + b) 0 (λ e. omega arith)))
 
 -- four at a time
 pub power-fours : (k : ℕ) → 2 ≤ k → 2 ^ k ≡ 2 ^ (k - 2) * 4

@@ -68,7 +68,7 @@ sound-row b p k h =
 
 -- ---- a price above 0: floats that equal it have its bits
 
-pub above-cost : (y : Float) → T (above y) → T (cost y)
+above-cost : (y : Float) → T (above y) → T (cost y)
 unfolding above lt cost
 above-cost nan h = h
 above-cost (inf true) h = h

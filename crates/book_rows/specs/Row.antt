@@ -7,7 +7,7 @@ use lib.ListN.{length}
 use lib.IntN.{pos}
 use lib.Ieee.{Float, fin, lt, add, ofInt, binary32}
 use Rattle.prices.specs.Book.{at, clusterValid}
-use Rattle.prices.specs.Checks.{symbolPrice, sameBits}
+use Rattle.prices.specs.Checks.{each, symbolPrice, sameBits}
 
 -- Cluster k lies within the lists, its configuration is valid, and its 128 prices are symbol prices.
 pub record Row (configs : List ℕ) (symbols ready : List Float) (k : ℕ) : Type 0 where
@@ -36,3 +36,7 @@ lineFour symbols ready from to extra = fourKept ready to (add binary32 (at symbo
 -- Ready price to + i is the price of one of 2 ^ l symbols from `from` on, plus the extra bits: the symbols take turns.
 unfoldable pub runKept : List Float → List Float → ℕ → ℕ → ℕ → ℕ → ℕ → Bool
 runKept symbols ready from to l bits i = sameBits (at ready (to + i)) (add binary32 (at symbols (from + i % 2 ^ l)) (ofInt binary32 (pos bits)))
+
+-- 2 ^ m runs of 2 ^ (l + bits) ready prices follow one another, each with the next 2 ^ l symbols.
+unfoldable pub octaveKept : List Float → List Float → ℕ → ℕ → ℕ → ℕ → ℕ → Bool
+octaveKept symbols ready from to m l bits = each (2 ^ m) (λ i. each (2 ^ (l + bits)) (runKept symbols ready (from + i * 2 ^ l) (to + i * 2 ^ (l + bits)) l bits))

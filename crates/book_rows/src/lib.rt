@@ -8,7 +8,7 @@ ghost use lib.Ieee.{add, binary32};
 ghost use Rattle.costs.specs.Cost.{cost};
 ghost use Rattle.prices.specs.Book.{at};
 ghost use Rattle.prices.specs.Checks.{each, symbolPrice, sameBits, rowKept};
-ghost use Rattle.book_rows.specs.Row.{Row, above, lineKept, fourKept, lineFour, runKept};
+ghost use Rattle.book_rows.specs.Row.{Row, above, lineKept, fourKept, lineFour, runKept, octaveKept};
 
 // 0 where two floats have the same bits, else 1. A NaN has no bits of its own, and no price is one.
 pub fn differs(kept: f32, price: f32) -> u32
@@ -127,7 +127,7 @@ fn run_kept(symbols: &[f32], ready: &[f32], from: usize, to: usize, l: u32, bits
     }
     if l + bits < 2 {
         let price = symbols[from] + extra;
-        return differs(ready[to], price) + differs(ready[to + 1], price) == 0;
+        return (ready[to] == price) & (ready[to + 1] == price);
     }
     let fours = packing::power(l + bits - 2) as usize;
     if l < 2 {
@@ -153,7 +153,7 @@ fn octave_kept(
     requires { ⌜ from + 2 ^ (m + l) ≤ length (now symbols) ⌝ }
     requires { ⌜ to + 2 ^ (m + l + bits) ≤ length (now ready) ⌝ }
     requires { ⌜ ((i : ℕ) → i < 2 ^ (m + l) → symbolPrice (at (now symbols) (from + i)) ≡ true) ⌝ }
-    ensures { λ r. ⌜ r ≡ each (2 ^ m) (λ i. each (2 ^ (l + bits)) (runKept (now (symbols .entry)) (now (ready .entry)) (from + i * 2 ^ l) (to + i * 2 ^ (l + bits)) l bits)) ⌝ }
+    ensures { λ r. ⌜ r ≡ octaveKept (now (symbols .entry)) (now (ready .entry)) from to m l bits ⌝ }
 {
     let runs = packing::power(m) as usize;
     let period = packing::power(l) as usize;

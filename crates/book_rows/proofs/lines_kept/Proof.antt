@@ -20,15 +20,18 @@ Inv-loop symbols ready from to fours lines extra i₀ i = (i ≤ fours) × (each
 abbrev μ-loop : tie.MeasureT-loop
 μ-loop symbols ready from to fours lines extra i₀ i = fours - i
 
--- a turn's four symbols are among those given, and their prices are above 0
-turn : (c : tie.In-loop Inv-loop μ-loop) → c .before .loop .i % c .before .before .before .before .args .lines < c .before .before .before .before .args .lines
-turn c = mod-lt (c .before .loop .i) (c .before .before .before .before .pre .0)
+abbrev start : tie.In-loop Inv-loop μ-loop → tie.Start Inv-loop μ-loop
+start c = c .before .before .before .before
 
-priced : (c : tie.In-loop Inv-loop μ-loop) (j : ℕ) → j < 4 → T (above (add binary32 (at (c .before .before .before .before .args .symbols .now) (c .before .before .before .before .args .from + 4 * (c .before .loop .i % c .before .before .before .before .args .lines) + j)) (c .before .before .before .before .args .extra)))
+-- a turn's four symbols are among those given, and their prices are above 0
+turn : (c : tie.In-loop Inv-loop μ-loop) → c .before .loop .i % start c .args .lines < start c .args .lines
+turn c = mod-lt (c .before .loop .i) (start c .pre .0)
+
+priced : (c : tie.In-loop Inv-loop μ-loop) (j : ℕ) → j < 4 → let a = start c .args in T (above (add binary32 (at (a .symbols .now) (a .from + 4 * (c .before .loop .i % a .lines) + j)) (a .extra)))
 priced c j h =
-    let a = c .before .before .before .before .args in
+    let a = start c .args in
     subst⁻¹ (λ (w : ℕ). T (above (add binary32 (at (a .symbols .now) w) (a .extra)))) (add-assoc (a .from) (4 * (c .before .loop .i % a .lines)) j)
-    (c .before .before .before .before .pre .1 .1 .1 (4 * (c .before .loop .i % a .lines) + j) (omega (arith, turn c)))
+    (start c .pre .1 .1 .1 (4 * (c .before .loop .i % a .lines) + j) (omega (arith, turn c)))
 
 loop-holds : tie.Need-loop-holds Inv-loop μ-loop
 unfolding each
@@ -85,7 +88,7 @@ add-four-kept c = search needs
 four-kept-requires : tie.Need-four-kept-requires Inv-loop μ-loop
 four-kept-requires c κs =
     let inl = c .before .before .before .before in
-    let a = inl .before .before .before .before .args in (
+    let a = start inl .args in (
       omega arith,
       (
         subst (λ (w : ℕ). T (above (add binary32 (at (a .symbols .now) w) (a .extra)))) (add-zero _) (priced inl 0 (omega arith)),

@@ -1,13 +1,13 @@
 -- `book_rows::octave_kept` meets its contract. Assumes nothing.
 use Prim.Native.Nat.{ℕ, _+_, _-_, _*_, _^_, _≤_}
 use mathlib.Core.Path.{_≡_, refl, sym, ap, ap₂, _∙_, subst, subst⁻¹}
-use mathlib.Core.Bool.{true}
+use mathlib.Core.Bool.{Bool, true}
 use native.Mathlib.Omega.{arith}
 use native.Mathlib.Nat.{add-assoc, le-trans, le-of-eq, lt-of-lt-of-le}
 use Rattle.prices.specs.Book.{at}
 use Rattle.prices.specs.Checks.{each, symbolPrice}
 use Rattle.prices.proofs.Each.{each-more, each-fails}
-use Rattle.book_rows.specs.Row.{runKept}
+use Rattle.book_rows.specs.Row.{runKept, octaveKept}
 use Rattle.book_rows.proofs.Octave.{run-within}
 use borrow.Author.Needs.{needs}
 use Rattle.book_rows.proofs.octave_kept.Statement.{statement}
@@ -19,32 +19,38 @@ Inv-loop symbols ready from to m l bits runs period count i₀ i = (i ≤ runs) 
 abbrev μ-loop : tie.MeasureT-loop
 μ-loop symbols ready from to m l bits runs period count i₀ i = runs - i
 
--- run i's symbols and values are among those given
 abbrev start : tie.At-loop Inv-loop μ-loop → tie.Start Inv-loop μ-loop
 start c = c .before .before .before .before .before .before
 
-symbols-in : (c : tie.In-loop Inv-loop μ-loop) → c .before .loop .i * 2 ^ start (c .before) .args .l + 2 ^ start (c .before) .args .l ≤ 2 ^ (start (c .before) .args .m + start (c .before) .args .l)
+-- run j
+abbrev run : tie.At-loop Inv-loop μ-loop → ℕ → Bool
+run c j =
+    let a = start c .args in
+    each (2 ^ (a .l + a .bits)) (runKept (a .symbols .now) (a .ready .now) (a .from + j * 2 ^ a .l) (a .to + j * 2 ^ (a .l + a .bits)) (a .l) (a .bits))
+
+-- where its symbols and its values begin
+symbols-at : (c : tie.At-loop Inv-loop μ-loop) → c .loop .i * c .before .before .power2 .result ≡ c .loop .i * 2 ^ start c .args .l
+symbols-at c = ap (λ (p : ℕ). c .loop .i * p) (c .loop .inv .2)
+
+values-at : (c : tie.At-loop Inv-loop μ-loop) → c .loop .i * c .before .power3 .result ≡ c .loop .i * 2 ^ (start c .args .l + start c .args .bits)
+values-at c = ap (λ (p : ℕ). c .loop .i * p) (c .loop .inv .3)
+
+-- both are among those given
+symbols-in : (c : tie.In-loop Inv-loop μ-loop)
+    → let a = start (c .before) .args in c .before .loop .i * 2 ^ a .l + 2 ^ a .l ≤ 2 ^ (a .m + a .l)
 symbols-in c = run-within _ _ _ (lt-of-lt-of-le (c .loop-test .taken) (le-of-eq (c .before .loop .inv .1)))
 
 values-in : (c : tie.In-loop Inv-loop μ-loop)
-    → c .before .loop .i * 2 ^ (start (c .before) .args .l + start (c .before) .args .bits) + 2 ^ (start (c .before) .args .l + start (c .before) .args .bits)
-    ≤ 2 ^ (start (c .before) .args .m + start (c .before) .args .l + start (c .before) .args .bits)
+    → let a = start (c .before) .args in c .before .loop .i * 2 ^ (a .l + a .bits) + 2 ^ (a .l + a .bits) ≤ 2 ^ (a .m + a .l + a .bits)
 values-in c =
     le-trans (run-within (start (c .before) .args .m) _ _ (lt-of-lt-of-le (c .loop-test .taken) (le-of-eq (c .before .loop .inv .1))))
     (le-of-eq (ap (λ (k : ℕ). 2 ^ k) (omega arith)))
 
-symbols-at : (c : tie.In-loop Inv-loop μ-loop) → c .before .loop .i * c .before .before .before .power2 .result ≡ c .before .loop .i * 2 ^ start (c .before) .args .l
-symbols-at c = ap (λ (p : ℕ). c .before .loop .i * p) (c .before .loop .inv .2)
-
-values-at : (c : tie.In-loop Inv-loop μ-loop) → c .before .loop .i * c .before .before .power3 .result ≡ c .before .loop .i * 2 ^ (start (c .before) .args .l + start (c .before) .args .bits)
-values-at c = ap (λ (p : ℕ). c .before .loop .i * p) (c .before .loop .inv .3)
-
--- what a call told of run i
-told : (c : tie.After-run-kept Inv-loop μ-loop) → c .run-kept .result ≡ each (2 ^ (start (c .before .before) .args .l + start (c .before .before) .args .bits)) (runKept (start (c .before .before) .args .symbols .now) (start (c .before .before) .args .ready .now) (start (c .before .before) .args .from + c .before .before .loop .i * 2 ^ start (c .before .before) .args .l) (start (c .before .before) .args .to + c .before .before .loop .i * 2 ^ (start (c .before .before) .args .l + start (c .before .before) .args .bits)) (start (c .before .before) .args .l) (start (c .before .before) .args .bits))
+told : (c : tie.After-run-kept Inv-loop μ-loop) → c .run-kept .result ≡ run (c .before .before) (c .before .before .loop .i)
 told c =
     let a = start (c .before .before) .args in
     c .run-kept .ensures
-    ∙ ap₂ (λ (x y : ℕ). each (2 ^ (a .l + a .bits)) (runKept (a .symbols .now) (a .ready .now) (a .from + x) (a .to + y) (a .l) (a .bits))) (symbols-at (c .before)) (values-at (c .before))
+    ∙ ap₂ (λ (x y : ℕ). each (2 ^ (a .l + a .bits)) (runKept (a .symbols .now) (a .ready .now) (a .from + x) (a .to + y) (a .l) (a .bits))) (symbols-at (c .before .before)) (values-at (c .before .before))
 
 power-requires : tie.Need-power-requires Inv-loop μ-loop
 power-requires c κs = search needs
@@ -78,16 +84,16 @@ loop-holds c = (
 )
 
 mul-run-kept : tie.Need-mul-run-kept Inv-loop μ-loop
-mul-run-kept c = omega (arith, symbols-at c, symbols-in c, start (c .before) .pre)
+mul-run-kept c = omega (arith, symbols-at (c .before), symbols-in c, start (c .before) .pre)
 
 add-run-kept : tie.Need-add-run-kept Inv-loop μ-loop
-add-run-kept c = omega (arith, symbols-at c, symbols-in c, start (c .before) .pre)
+add-run-kept c = omega (arith, symbols-at (c .before), symbols-in c, start (c .before) .pre)
 
 mul-run-kept-2 : tie.Need-mul-run-kept-2 Inv-loop μ-loop
-mul-run-kept-2 c = omega (arith, values-at c, values-in c, start (c .before) .pre)
+mul-run-kept-2 c = omega (arith, values-at (c .before), values-in c, start (c .before) .pre)
 
 add-run-kept-2 : tie.Need-add-run-kept-2 Inv-loop μ-loop
-add-run-kept-2 c = omega (arith, values-at c, values-in c, start (c .before) .pre)
+add-run-kept-2 c = omega (arith, values-at (c .before), values-in c, start (c .before) .pre)
 
 run-kept-requires : tie.Need-run-kept-requires Inv-loop μ-loop
 run-kept-requires c κs =
@@ -96,11 +102,11 @@ run-kept-requires c κs =
     let i = c .before .loop .i in (
       omega arith,
       (
-        omega (arith, symbols-at c, symbols-in c, begin .pre),
+        omega (arith, symbols-at (c .before), symbols-in c, begin .pre),
         (
-          omega (arith, values-at c, values-in c, begin .pre),
+          omega (arith, values-at (c .before), values-in c, begin .pre),
           λ j h.
-              subst⁻¹ (λ (w : ℕ). symbolPrice (at (a .symbols .now) w) ≡ true) (ap (λ (p : ℕ). a .from + p + j) (symbols-at c) ∙ add-assoc (a .from) (i * 2 ^ a .l) j)
+              subst⁻¹ (λ (w : ℕ). symbolPrice (at (a .symbols .now) w) ≡ true) (ap (λ (p : ℕ). a .from + p + j) (symbols-at (c .before)) ∙ add-assoc (a .from) (i * 2 ^ a .l) j)
               (begin .pre .1 .1 .1 (i * 2 ^ a .l + j) (omega (arith, symbols-in c))),
         ),
       ),
@@ -118,16 +124,14 @@ loop-again c =
     (omega arith, inv .1, inv .2, inv .3, each-more _ _ (inv .4) (sym (told (c .before)) ∙ c .if1 .taken))
 
 returns : tie.Need-returns Inv-loop μ-loop
+unfolding octaveKept
 returns c =
     let loop = c .before .before .before .loop in
     sym (each-fails _ _ (loop .i) (lt-of-lt-of-le (c .before .before .loop-test .taken) (le-of-eq (loop .inv .1))) (sym (told (c .before)) ∙ c .if1 .left))
 
 returns-2 : tie.Need-returns-2 Inv-loop μ-loop
-returns-2 c =
-    let a = start (c .before) .args in
-    sym
-    (subst (λ (n : ℕ). each n (λ j. each (2 ^ (a .l + a .bits)) (runKept (a .symbols .now) (a .ready .now) (a .from + j * 2 ^ a .l) (a .to + j * 2 ^ (a .l + a .bits)) (a .l) (a .bits))) ≡ true)
-    (omega (arith, c .before .loop .inv)) (c .before .loop .inv .4))
+unfolding octaveKept
+returns-2 c = sym (subst (λ (n : ℕ). each n (run (c .before)) ≡ true) (omega (arith, c .before .loop .inv)) (c .before .loop .inv .4))
 
 pub octave-kept-spec : {M : Type 1} → statement M
 octave-kept-spec =

@@ -1,7 +1,7 @@
 -- `book_rows::row_kept` meets its contract: the values below 2 ^ s, and then one octave after the other. Assumes nothing.
 use Prim.Native.Nat.{ℕ, _+_, _-_, _*_, _^_, _≤_}
-use mathlib.Core.Path.{_≡_, refl, sym, ap, ap₂, _∙_, subst, subst⁻¹}
-use mathlib.Core.Bool.{true, false}
+use mathlib.Core.Path.{_≡_, refl, sym, ap, _∙_, subst, subst⁻¹}
+use mathlib.Core.Bool.{Bool, true, false}
 use native.Mathlib.Omega.{arith}
 use native.Mathlib.Nat.{le-of-eq}
 use lib.ListN.{getD}
@@ -9,11 +9,12 @@ use lib.IntN.{pos}
 use lib.Ieee.{fin, ofBits}
 use lib.Pow.{pow-mono}
 use Rattle.packing.proofs.Hybrid.{Valid}
-use Rattle.prices.specs.Book.{at, clusterPrice}
-use Rattle.prices.specs.Checks.{each, symbolPrice, sameBits, rowKept}
+use Rattle.prices.specs.Book.{at}
+use Rattle.prices.specs.Checks.{each, symbolPrice, rowKept}
+use Rattle.prices.proofs.Each.{each-cut}
 use Rattle.prices.proofs.Costs.{zero-sum-cost}
-use Rattle.book_rows.specs.Row.{lineKept, runKept}
-use Rattle.book_rows.proofs.Octave.{config-is, head-all, octave-step, octave-room, first-base, next-base, each-cut}
+use Rattle.book_rows.specs.Row.{lineKept, octaveKept}
+use Rattle.book_rows.proofs.Octave.{keptAt, base, config-is, head-all, octave-step, octave-room, first-base, next-base}
 use borrow.Author.Needs.{needs}
 use borrow.Author.Tests.{not-true, not-false}
 use Rattle.book_rows.proofs.row_kept.Statement.{statement}
@@ -23,8 +24,8 @@ abbrev Inv-loop : tie.InvT-loop
 Inv-loop configs symbols ready cluster m l n₀ small from₀ n from =
     (getD configs (3 * cluster) 0 ≤ n)
     × (n ≤ 8)
-    × (from ≡ 128 * cluster + (2 ^ getD configs (3 * cluster) 0 + (n - getD configs (3 * cluster) 0) * 2 ^ (m + l)))
-    × (each (2 ^ n) (λ w. sameBits (at ready (256 * cluster + w)) (clusterPrice configs symbols cluster w)) ≡ true)
+    × (from ≡ 128 * cluster + base (getD configs (3 * cluster) 0) m l n)
+    × (each (2 ^ n) (keptAt configs symbols ready cluster) ≡ true)
 
 abbrev μ-loop : tie.MeasureT-loop
 μ-loop configs symbols ready cluster m l n₀ small from₀ n from = 8 - n
@@ -45,6 +46,9 @@ m-of c = c .config-of .result .«msb_in_token»
 abbrev l-of : tie.After-config-of Inv-loop μ-loop → ℕ
 l-of c = c .config-of .result .«lsb_in_token»
 
+abbrev kept : tie.After-config-of Inv-loop μ-loop → ℕ → Bool
+kept c = keptAt (start c .args .configs .now) (start c .args .symbols .now) (start c .args .ready .now) (start c .args .cluster)
+
 sizes : (c : tie.After-config-of Inv-loop μ-loop) → Valid (s-of c) (m-of c) (l-of c)
 sizes c =
     let a = start c .args in
@@ -54,7 +58,7 @@ sizes c =
 headed : (c : tie.After-power Inv-loop μ-loop) → c .power .result ≡ 2 ^ s-of (c .before)
 headed c = c .power .ensures ∙ ap (λ (n : ℕ). 2 ^ n) (c .before .config-of .ensures .0)
 
-head-told : (c : tie.After-line-kept Inv-loop μ-loop) → c .line-kept .result ≡ each (2 ^ s-of (c .before .before)) (λ w. sameBits (at (start (c .before .before) .args .ready .now) (256 * start (c .before .before) .args .cluster + w)) (clusterPrice (start (c .before .before) .args .configs .now) (start (c .before .before) .args .symbols .now) (start (c .before .before) .args .cluster) w))
+head-told : (c : tie.After-line-kept Inv-loop μ-loop) → c .line-kept .result ≡ each (2 ^ s-of (c .before .before)) (kept (c .before .before))
 unfolding ofBits
 head-told c =
     let f = c .before .before in
@@ -64,24 +68,22 @@ head-told c =
     ∙ head-all (a .configs .now) (a .symbols .now) (a .ready .now) (a .cluster) (s-of f) (m-of f) (l-of f) refl (sym (f .config-of .ensures .1 .0)) (sym (f .config-of .ensures .1 .1))
 
 -- the values with top bit n
-whole : (c : tie.At-loop Inv-loop μ-loop) → c .loop .n ≡ m-of (first c) + l-of (first c) + (c .loop .n - m-of (first c) - l-of (first c))
+whole : (c : tie.At-loop Inv-loop μ-loop) → let f = first c in c .loop .n ≡ m-of f + l-of f + (c .loop .n - m-of f - l-of f)
 whole c = omega (arith, sizes (first c), c .loop .inv .0)
 
-stepped : (c : tie.After-octave-kept Inv-loop μ-loop) → each (2 ^ (c .before .before .before .loop .n + 1)) (λ w. sameBits (at (start (first (c .before .before .before)) .args .ready .now) (256 * start (first (c .before .before .before)) .args .cluster + w)) (clusterPrice (start (first (c .before .before .before)) .args .configs .now) (start (first (c .before .before .before)) .args .symbols .now) (start (first (c .before .before .before)) .args .cluster) w)) ≡ c .octave-kept .result
+room : (c : tie.In-loop Inv-loop μ-loop) → let f = first (c .before) in base (s-of f) (m-of f) (l-of f) (c .before .loop .n) + 2 ^ (m-of f + l-of f) ≤ 128
+room c = let f = first (c .before) in octave-room (s-of f) (m-of f) (l-of f) (sizes f) (c .before .loop .n) (c .loop-test .taken) (c .before .loop .inv .0)
+
+stepped : (c : tie.After-octave-kept Inv-loop μ-loop) → each (2 ^ (c .before .before .before .loop .n + 1)) (kept (first (c .before .before .before))) ≡ c .octave-kept .result
 stepped c =
     let at-loop = c .before .before .before in
     let f = first at-loop in
     let a = start f .args in
     let n = at-loop .loop .n in
     let inv = at-loop .loop .inv in
-    let e = n - m-of f - l-of f in
-    octave-step (a .configs .now) (a .symbols .now) (a .ready .now) (a .cluster) (s-of f) (m-of f) (l-of f) refl (sym (f .config-of .ensures .1 .0)) (sym (f .config-of .ensures .1 .1)) n e (at-loop .loop .from) (whole at-loop) (inv .0) (inv .2) (c .octave-kept .result)
-    (c .octave-kept .ensures
-    ∙ ap (λ (x : ℕ). each (2 ^ m-of f) (λ i. each (2 ^ (l-of f + e)) (runKept (a .symbols .now) (a .ready .now) (at-loop .loop .from + i * 2 ^ l-of f) (256 * a .cluster + x + i * 2 ^ (l-of f + e)) (l-of f) e))) (c .before .power2 .ensures))
+    octave-step (a .configs .now) (a .symbols .now) (a .ready .now) (a .cluster) (s-of f) (m-of f) (l-of f) refl (sym (f .config-of .ensures .1 .0)) (sym (f .config-of .ensures .1 .1)) n (n - m-of f - l-of f) (at-loop .loop .from) (whole at-loop) (inv .0) (inv .2) (c .octave-kept .result)
+    (c .octave-kept .ensures ∙ ap (λ (x : ℕ). octaveKept (a .symbols .now) (a .ready .now) (at-loop .loop .from) (256 * a .cluster + x) (m-of f) (l-of f) (n - m-of f - l-of f)) (c .before .power2 .ensures))
     (inv .3)
-
-room : (c : tie.In-loop Inv-loop μ-loop) → 2 ^ s-of (first (c .before)) + (c .before .loop .n - s-of (first (c .before))) * 2 ^ (m-of (first (c .before)) + l-of (first (c .before))) + 2 ^ (m-of (first (c .before)) + l-of (first (c .before))) ≤ 128
-room c = octave-room (s-of (first (c .before))) _ _ (sizes (first (c .before))) (c .before .loop .n) (c .loop-test .taken) (c .before .loop .inv .0)
 
 config-of-requires : tie.Need-config-of-requires Inv-loop μ-loop
 config-of-requires c κs = search needs
@@ -131,8 +133,8 @@ loop-holds c =
     let e = f .config-of .ensures .0 in (
       le-of-eq (sym e),
       omega (arith, sizes f, e),
-      ap (λ (x : ℕ). 128 * start f .args .cluster + x) (headed (c .before .before) ∙ first-base (s-of f) (2 ^ (m-of f + l-of f)) ∙ ap (λ (n : ℕ). 2 ^ s-of f + (n - s-of f) * 2 ^ (m-of f + l-of f)) (sym e)),
-      ap (λ (n : ℕ). each (2 ^ n) (λ w. sameBits (at (start f .args .ready .now) (256 * start f .args .cluster + w)) (clusterPrice (start f .args .configs .now) (start f .args .symbols .now) (start f .args .cluster) w))) e ∙ sym (head-told (c .before)) ∙ not-false _ (c .if1 .left),
+      ap (λ (x : ℕ). 128 * start f .args .cluster + x) (headed (c .before .before) ∙ first-base (s-of f) (m-of f) (l-of f) ∙ ap (base (s-of f) (m-of f) (l-of f)) (sym e)),
+      ap (λ (n : ℕ). each (2 ^ n) (kept f)) e ∙ sym (head-told (c .before)) ∙ not-false _ (c .if1 .left),
     )
 
 mul-to : tie.Need-mul-to Inv-loop μ-loop
@@ -169,7 +171,7 @@ octave-kept-requires c κs =
           omega (arith, c .power2 .ensures, few, same, row .kept),
           λ i h.
               subst⁻¹ (λ (w : ℕ). symbolPrice (at (a .symbols .now) w) ≡ true) (omega (arith, loop .inv .2))
-              (row .prices (2 ^ s-of f + (n - s-of f) * 2 ^ (m-of f + l-of f) + i) (omega (arith, room (c .before)))),
+              (row .prices (base (s-of f) (m-of f) (l-of f) n + i) (omega (arith, room (c .before)))),
         ),
       ),
     )
@@ -198,7 +200,7 @@ loop-again c =
     let f = first at-loop in (
       omega arith,
       omega arith,
-      omega (arith, c .power3 .ensures, at-loop .loop .inv .2, next-base (s-of f) (at-loop .loop .n) (2 ^ (m-of f + l-of f)) (at-loop .loop .inv .0)),
+      omega (arith, c .power3 .ensures, at-loop .loop .inv .2, next-base (s-of f) (m-of f) (l-of f) (at-loop .loop .n) (at-loop .loop .inv .0)),
       stepped (c .before .before) ∙ c .before .if2 .taken,
     )
 
@@ -209,11 +211,8 @@ returns-2 c = sym (each-cut _ (2 ^ (c .before .before .before .before .loop .n +
 returns-3 : tie.Need-returns-3 Inv-loop μ-loop
 unfolding rowKept
 returns-3 c =
-    let a = start (first (c .before)) .args in
     let end : c .before .loop .n ≡ 8 = omega arith in
-    sym
-    (subst (λ (n : ℕ). each (2 ^ n) (λ w. sameBits (at (a .ready .now) (256 * a .cluster + w)) (clusterPrice (a .configs .now) (a .symbols .now) (a .cluster) w)) ≡ true)
-    end (c .before .loop .inv .3))
+    sym (subst (λ (n : ℕ). each (2 ^ n) (kept (first (c .before))) ≡ true) end (c .before .loop .inv .3))
 
 pub row-kept-spec : {M : Type 1} → statement M
 row-kept-spec =
