@@ -51,7 +51,7 @@ fn line_kept(
     bad == 0
 }
 
-// Whether four ready prices in a row are these. Equal floats that are not 0 have the same bits, and `&` has no branch, so the four are compared at once.
+// Whether four ready prices in a row are these. What equals a float above 0 has its bits, and `&` has no branch: so the four are compared at once.
 fn four_kept(ready: &[f32], to: usize, a: f32, b: f32, c: f32, d: f32) -> bool
     requires { ⌜ to + 4 ≤ length (now ready) ⌝ }
     requires { ⌜ T (above a) ⌝ }
@@ -113,7 +113,7 @@ fn lines_kept(
     true
 }
 
-// Whether the ready prices of a run of 2^(l + bits) values are those of its 2^l symbols by turns, plus the extra bits.
+// Whether the ready prices of a run of 2^(l + bits) values are those of its 2^l symbols by turns, plus the extra bits. With no extra bits a price may be 0, and so -0.0 has to be told from it.
 fn run_kept(symbols: &[f32], ready: &[f32], from: usize, to: usize, l: u32, bits: u32) -> bool
     requires { ⌜ l + bits ≤ 7 ⌝ }
     requires { ⌜ from + 2 ^ l ≤ length (now symbols) ⌝ }
@@ -139,7 +139,7 @@ fn run_kept(symbols: &[f32], ready: &[f32], from: usize, to: usize, l: u32, bits
     lines_kept(symbols, ready, from, to, fours, lines, extra)
 }
 
-// Whether the ready prices of 2^m runs in a row are those of as many lots of 2^l symbols.
+// Whether the ready prices of 2^m runs in a row are kept, each with the next 2^l symbols.
 fn octave_kept(
     symbols: &[f32],
     ready: &[f32],
