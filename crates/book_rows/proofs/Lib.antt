@@ -1,3 +1,3 @@
 pub mod Steps
+mod Octave
 mod Runs
-mod Periods

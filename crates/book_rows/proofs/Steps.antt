@@ -1,19 +1,23 @@
 -- What the comparison of ready prices rests on.
 use Prim.Native.Nat.{ℕ, _+_, _*_, _<_, _≤_}
-use mathlib.Core.Path.{_≡_, refl, sym, _∙_, subst, subst⁻¹}
-use mathlib.Core.Bool.{Bool, true, false, not, false≢true, and-false}
+use mathlib.Core.Path.{_≡_, refl, sym, ap, _∙_, subst, subst⁻¹, subst₂}
+use mathlib.Core.Bool.{Bool, true, false, not, false≢true}
 use native.Mathlib.Omega.{arith}
-use lib.Dec.{T}
-use lib.Ieee.{Float, nan, inf, fin, isNan, ne, fits, toBits, binary32}
-use lib.Ieee.Bits.{is-false}
+use native.Mathlib.Nat.{mul-pos, mul-one, zero-mul}
+use lib.Dec.{T, eqb, eqb→eq, ltb→lt}
+use lib.IntN.{pos}
+use lib.Ieee.{Float, nan, inf, fin, up, down, add, ofInt, lt, eq, isNan, ne, fits, toBits, binary32}
+use lib.Ieee.Bits.{is-true}
+use lib.Ieee.Fits.{and-l, and-r, down-pos}
 use lib.Ieee.Compare.{differs-from-itself, nan-differs}
 use borrow.Author.Tests.{eq-eqb, ne-eqb}
 use mathlib.Core.List.{List}
 use Rattle.costs.specs.Cost.{cost}
+use Rattle.costs.proofs.Order.{same-test, eq→le, le→eq, le-refl, le-antisymm}
 use Rattle.prices.specs.Book.{Book, clusterPrice, clusterSymbol}
-use Rattle.prices.proofs.Costs.{cluster-cost, symbol-within}
-use Rattle.book_rows.specs.Row.{Row, twin}
-use Rattle.prices.specs.Checks.{sameBits}
+use Rattle.prices.proofs.Costs.{cluster-cost, symbol-within, sum-above}
+use Rattle.book_rows.specs.Row.{Row, above}
+use Rattle.prices.specs.Checks.{symbolPrice, sameBits}
 use Rattle.prices.proofs.Passed.{Sound, same-float}
 
 pub no-nan : (x : Float) → ne x x ≡ false → T (not (isNan x))
@@ -62,27 +66,51 @@ sound-row b p k h =
       prices = λ i q. p .priced (128 * k + i) (omega arith);
     }
 
--- ---- two ready prices
+-- ---- a price above 0: floats that equal it have its bits
 
-pub nan-left : (x y : Float) → ne x x ≡ true → twin x y ≡ false
-unfolding twin isNan
-nan-left x y e = subst⁻¹ (λ (z : Float). twin z y ≡ false) (differs-from-itself x (subst T (sym e) tt)) refl
+above-cost : (y : Float) → T (above y) → T (cost y)
+unfolding above lt cost
+above-cost nan h = h
+above-cost (inf true) h = h
+above-cost (inf false) h = tt
+above-cost (fin true n d) h = h
+above-cost (fin false n d) h = tt
 
-pub nan-right : (x y : Float) → ne y y ≡ true → twin x y ≡ false
-unfolding twin isNan
-nan-right x y e = subst⁻¹ (λ (z : Float). twin x z ≡ false) (differs-from-itself y (subst T (sym e) tt)) (simp and-false)
+-- a symbol price plus at least one extra bit
+pub price-above : (x : Float) (n : ℕ) → symbolPrice x ≡ true → 0 < n → T (above (add binary32 x (ofInt binary32 (pos n))))
+unfolding above
+price-above x n h some = sum-above n some x h
 
-twin-clear : (x y : Float) → T (not (isNan x)) → T (not (isNan y)) → twin x y ≡ sameBits x y
-unfolding twin
-twin-clear x y p q = simp (is-false (isNan x) p, is-false (isNan y) q)
+-- what equals it has a clear sign
+equal-cost : (x y : Float) → T (above y) → T (eq x y) → T (cost x)
+unfolding above lt eq cost
+equal-cost nan y h e = e
+equal-cost (inf true) nan h e = e
+equal-cost (inf true) (inf true) h e = h
+equal-cost (inf true) (inf false) h e = e
+equal-cost (inf true) (fin t n d) h e = e
+equal-cost (inf false) y h e = tt
+equal-cost (fin true m k) nan h e = e
+equal-cost (fin true m k) (inf t) h e = e
+equal-cost (fin true m k) (fin true n d) h e = h
+equal-cost (fin true m k) (fin false n d) h e =
+    let a = m * up k * down d in
+    let b = n * up d * down k in
+    let same : a ≡ b = eqb→eq a b (and-l (eqb a b) (eqb a 0) e) in
+    let none : a ≡ 0 = eqb→eq a 0 (and-r (eqb a b) (eqb a 0) e) in
+    let some : 0 < n * up d = subst₂ _<_ (zero-mul (down d)) (mul-one (n * up d)) (ltb→lt (0 * down d) (n * up d * 1) h) in
+    let positive : 0 < b = mul-pos some (down-pos k) in
+    absurd (omega arith)
+equal-cost (fin false m k) y h e = tt
 
-pub twin-bits : (x y : Float) → ne x x ≡ false → ne y y ≡ false → twin x y ≡ sameBits x y
-twin-bits x y p q = twin-clear x y (no-nan x p) (no-nan y q)
-
--- beside a cost the NaNs make no difference
-pub twin-cost : (x y : Float) → T (cost y) → T (fits binary32 x) → T (fits binary32 y) → twin x y ≡ sameBits x y
-twin-cost x y h fx fy = go (ne x x) refl
-  where
-    go : (b : Bool) → ne x x ≡ b → twin x y ≡ sameBits x y
-    go true e = nan-left x y e ∙ sym (nan-bits x y e h fx fy)
-    go false e = twin-clear x y (no-nan x e) (cost-no-nan y h)
+pub equal-bits : (x y : Float) → T (above y) → T (fits binary32 x) → T (fits binary32 y) → eq x y ≡ sameBits x y
+equal-bits x y h fx fy =
+    same-test (eq x y) (sameBits x y)
+    (λ e.
+    let cx = equal-cost x y h e in
+    let cy = above-cost y h in
+    let both = eq→le x y cx cy e in
+    subst T (sym (same-bits x y (ap (toBits binary32) (le-antisymm binary32 x y cx cy fx fy (both .0) (both .1))))) tt)
+    (λ e.
+    let cy = above-cost y h in
+    subst⁻¹ (λ (z : Float). T (eq z y)) (same-float fx fy (is-true (sameBits x y) e)) (le→eq y y cy cy (le-refl y cy) (le-refl y cy)))

@@ -1,13 +1,14 @@
 // Check 6 of a price book: the ready prices.
 ghost use mathlib.Core.Path.{_≡_};
-ghost use Prim.Native.Nat.{ℕ, _≤_, _<_, _+_, _*_};
+ghost use mathlib.Core.Bool.{true};
+ghost use Prim.Native.Nat.{ℕ, _≤_, _<_, _+_, _*_, _%_, _^_};
 ghost use lib.Dec.{T, eqb};
 ghost use lib.ListN.{length};
 ghost use lib.Ieee.{add, binary32};
 ghost use Rattle.costs.specs.Cost.{cost};
 ghost use Rattle.prices.specs.Book.{at};
 ghost use Rattle.prices.specs.Checks.{each, symbolPrice, sameBits, rowKept};
-ghost use Rattle.book_rows.specs.Row.{Row, lineKept, runKept, twin, repeated, blockKept};
+ghost use Rattle.book_rows.specs.Row.{Row, above, lineKept, fourKept, lineFour, runKept, octaveKept};
 
 // 0 where two floats have the same bits, else 1. A NaN has no bits of its own, and no price is one.
 pub fn differs(kept: f32, price: f32) -> u32
@@ -25,41 +26,20 @@ pub fn differs(kept: f32, price: f32) -> u32
     }
 }
 
-// 0 where two ready prices have the same bits and are no NaNs, else 1.
-fn unlike(a: f32, b: f32) -> u32
-    ensures { λ r. ⌜ twin a b ≡ eqb r 0 ⌝ }
-    ensures { λ r. ⌜ r ≤ 1 ⌝ }
-{
-    if a != a {
-        return 1;
-    }
-    if b != b {
-        return 1;
-    }
-    if f32::to_bits(a) == f32::to_bits(b) {
-        0
-    } else {
-        1
-    }
-}
-
-// The loops below count failures and have no early exit, so they are vectorised.
-
-// How many of `count` ready prices in a row differ from as many symbols' prices plus the extra bits.
-fn line_differs(
+// Whether `count` ready prices in a row are as many symbols' prices plus the extra bits. Failures are counted, so the loop has no early exit and is vectorised.
+fn line_kept(
     symbols: &[f32],
     ready: &[f32],
     from: usize,
     to: usize,
     count: usize,
     extra: f32,
-) -> u32
+) -> bool
     requires { ⌜ count ≤ 256 ⌝ }
     requires { ⌜ from + count ≤ length (now symbols) ⌝ }
     requires { ⌜ to + count ≤ length (now ready) ⌝ }
     requires { ⌜ ((i : ℕ) → i < count → T (cost (add binary32 (at (now symbols) (from + i)) extra))) ⌝ }
-    ensures { λ r. ⌜ each count (lineKept (now (symbols .entry)) (now (ready .entry)) from to extra) ≡ eqb r 0 ⌝ }
-    ensures { λ r. ⌜ r ≤ count ⌝ }
+    ensures { λ r. ⌜ r ≡ each count (lineKept (now (symbols .entry)) (now (ready .entry)) from to extra) ⌝ }
 {
     let mut bad: u32 = 0;
     let mut i = 0;
@@ -68,103 +48,151 @@ fn line_differs(
         bad += differs(ready[to + i], price);
         i += 1;
     }
-    bad
+    bad == 0
 }
 
-// How many of `count` ready prices in a row differ from one price.
-fn run_differs(ready: &[f32], from: usize, count: usize, price: f32) -> u32
-    requires { ⌜ count ≤ 256 ⌝ }
-    requires { ⌜ from + count ≤ length (now ready) ⌝ }
-    requires { ⌜ T (cost price) ⌝ }
-    ensures { λ r. ⌜ each count (runKept (now (ready .entry)) from price) ≡ eqb r 0 ⌝ }
-    ensures { λ r. ⌜ r ≤ count ⌝ }
+// Whether four ready prices in a row are these. What equals a float above 0 has its bits, and `&` has no branch: so the four are compared at once.
+fn four_kept(ready: &[f32], to: usize, a: f32, b: f32, c: f32, d: f32) -> bool
+    requires { ⌜ to + 4 ≤ length (now ready) ⌝ }
+    requires { ⌜ T (above a) ⌝ }
+    requires { ⌜ T (above b) ⌝ }
+    requires { ⌜ T (above c) ⌝ }
+    requires { ⌜ T (above d) ⌝ }
+    ensures { λ r. ⌜ r ≡ fourKept (now (ready .entry)) to a b c d ⌝ }
 {
-    let mut bad: u32 = 0;
-    let mut i = 0;
-    while i < count {
-        bad += differs(ready[from + i], price);
-        i += 1;
-    }
-    bad
+    (ready[to] == a) & (ready[to + 1] == b) & (ready[to + 2] == c) & (ready[to + 3] == d)
 }
 
-// How many of `count` ready prices in a row differ from those a period before them.
-fn repeats_differ(ready: &[f32], from: usize, period: usize, count: usize) -> u32
-    requires { ⌜ period + count ≤ 256 ⌝ }
-    requires { ⌜ from + period + count ≤ length (now ready) ⌝ }
-    ensures { λ r. ⌜ each count (repeated (now (ready .entry)) from period) ≡ eqb r 0 ⌝ }
-    ensures { λ r. ⌜ r ≤ count ⌝ }
+// Whether ready prices, four after four, are two prices by turns.
+fn turns_kept(ready: &[f32], to: usize, fours: usize, a: f32, b: f32) -> bool
+    requires { ⌜ to + 4 * fours ≤ length (now ready) ⌝ }
+    requires { ⌜ T (above a) ⌝ }
+    requires { ⌜ T (above b) ⌝ }
+    ensures { λ r. ⌜ r ≡ each fours (λ i. fourKept (now (ready .entry)) (to + 4 * i) a b a b) ⌝ }
 {
-    let later = from + period;
-    let mut bad: u32 = 0;
     let mut i = 0;
-    while i < count {
-        bad += unlike(ready[later + i], ready[from + i]);
-        i += 1;
+    while i < fours {
+        if four_kept(ready, to + 4 * i, a, b, a, b) {
+            i += 1;
+        } else {
+            return false;
+        }
     }
-    bad
+    true
 }
 
-// 0 where `count` ready prices are those of `period` symbols that take turns, plus the extra bits.
-fn block_differs(
+// Whether ready prices, four after four, are those of `lines` times four symbols by turns, plus the extra bits.
+fn lines_kept(
     symbols: &[f32],
     ready: &[f32],
     from: usize,
     to: usize,
-    period: usize,
-    count: usize,
+    fours: usize,
+    lines: usize,
     extra: f32,
-) -> u32
-    requires { ⌜ 0 < period ⌝ }
-    requires { ⌜ period ≤ count ⌝ }
-    requires { ⌜ count ≤ 256 ⌝ }
-    requires { ⌜ from + period ≤ length (now symbols) ⌝ }
-    requires { ⌜ to + count ≤ length (now ready) ⌝ }
-    requires { ⌜ ((i : ℕ) → i < period → T (cost (add binary32 (at (now symbols) (from + i)) extra))) ⌝ }
-    ensures { λ r. ⌜ each count (blockKept (now (symbols .entry)) (now (ready .entry)) from to period extra) ≡ eqb r 0 ⌝ }
-    ensures { λ r. ⌜ r ≤ count ⌝ }
+) -> bool
+    requires { ⌜ 0 < lines ⌝ }
+    requires { ⌜ from + 4 * lines ≤ length (now symbols) ⌝ }
+    requires { ⌜ to + 4 * fours ≤ length (now ready) ⌝ }
+    requires { ⌜ ((i : ℕ) → i < 4 * lines → T (above (add binary32 (at (now symbols) (from + i)) extra))) ⌝ }
+    ensures { λ r. ⌜ r ≡ each fours (λ i. lineFour (now (symbols .entry)) (now (ready .entry)) (from + 4 * (i % lines)) (to + 4 * i) extra) ⌝ }
 {
-    if period == 1 {
-        let price = symbols[from] + extra;
-        return run_differs(ready, to, count, price);
+    let mut i = 0;
+    while i < fours {
+        let at = from + 4 * (i % lines);
+        let a = symbols[at] + extra;
+        let b = symbols[at + 1] + extra;
+        let c = symbols[at + 2] + extra;
+        let d = symbols[at + 3] + extra;
+        if four_kept(ready, to + 4 * i, a, b, c, d) {
+            i += 1;
+        } else {
+            return false;
+        }
     }
-    let first = line_differs(symbols, ready, from, to, period, extra);
-    first + repeats_differ(ready, to, period, count - period)
+    true
 }
 
-// Check 6 for one cluster. Values that agree in the top bit and the bits under it follow one another: their symbols differ in the low bits alone, and take turns.
+// Whether the ready prices of a run of 2^(l + bits) values are those of its 2^l symbols by turns, plus the extra bits. With no extra bits a price may be 0, and so -0.0 has to be told from it.
+fn run_kept(symbols: &[f32], ready: &[f32], from: usize, to: usize, l: u32, bits: u32) -> bool
+    requires { ⌜ l + bits ≤ 7 ⌝ }
+    requires { ⌜ from + 2 ^ l ≤ length (now symbols) ⌝ }
+    requires { ⌜ to + 2 ^ (l + bits) ≤ length (now ready) ⌝ }
+    requires { ⌜ ((i : ℕ) → i < 2 ^ l → symbolPrice (at (now symbols) (from + i)) ≡ true) ⌝ }
+    ensures { λ r. ⌜ r ≡ each (2 ^ (l + bits)) (runKept (now (symbols .entry)) (now (ready .entry)) from to l bits) ⌝ }
+{
+    let extra = bits as f32;
+    if bits == 0 {
+        return line_kept(symbols, ready, from, to, packing::power(l) as usize, extra);
+    }
+    if l + bits < 2 {
+        let price = symbols[from] + extra;
+        return (ready[to] == price) & (ready[to + 1] == price);
+    }
+    let fours = packing::power(l + bits - 2) as usize;
+    if l < 2 {
+        let a = symbols[from] + extra;
+        let b = symbols[from + l as usize] + extra;
+        return turns_kept(ready, to, fours, a, b);
+    }
+    let lines = packing::power(l - 2) as usize;
+    lines_kept(symbols, ready, from, to, fours, lines, extra)
+}
+
+// Whether the ready prices of 2^m runs in a row are kept, each with the next 2^l symbols.
+fn octave_kept(
+    symbols: &[f32],
+    ready: &[f32],
+    from: usize,
+    to: usize,
+    m: u32,
+    l: u32,
+    bits: u32,
+) -> bool
+    requires { ⌜ m + l + bits ≤ 7 ⌝ }
+    requires { ⌜ from + 2 ^ (m + l) ≤ length (now symbols) ⌝ }
+    requires { ⌜ to + 2 ^ (m + l + bits) ≤ length (now ready) ⌝ }
+    requires { ⌜ ((i : ℕ) → i < 2 ^ (m + l) → symbolPrice (at (now symbols) (from + i)) ≡ true) ⌝ }
+    ensures { λ r. ⌜ r ≡ octaveKept (now (symbols .entry)) (now (ready .entry)) from to m l bits ⌝ }
+{
+    let runs = packing::power(m) as usize;
+    let period = packing::power(l) as usize;
+    let count = packing::power(l + bits) as usize;
+    let mut i = 0;
+    while i < runs {
+        if run_kept(symbols, ready, from + i * period, to + i * count, l, bits) {
+            i += 1;
+        } else {
+            return false;
+        }
+    }
+    true
+}
+
+// Check 6 for one cluster. Values with top bit n are 2^m runs: in a run all but the low bits of the symbol stay, and so do the extra bits.
 fn row_kept(configs: &[u8], symbols: &[f32], ready: &[f32], cluster: usize) -> bool
     requires { ⌜ Row (now configs) (now symbols) (now ready) cluster ⌝ }
     ensures { λ r. ⌜ r ≡ rowKept (now (configs .entry)) (now (symbols .entry)) (now (ready .entry)) cluster ⌝ }
 {
     let config = prices::config_of(configs, cluster);
     let m = config.msb_in_token;
-    let period = packing::power(config.lsb_in_token) as usize;
-    let mut v = packing::power(config.split_exponent);
-    let mut bad = line_differs(
-        symbols,
-        ready,
-        128 * cluster,
-        256 * cluster,
-        v as usize,
-        0.0,
-    );
-    while v < 256 {
-        let split = prices::cluster_split(configs, cluster, v);
-        let from = 128 * cluster + split.symbol as usize;
-        let count = packing::power(packing::top_bit(v) - m);
-        bad += block_differs(
-            symbols,
-            ready,
-            from,
-            256 * cluster + v as usize,
-            period,
-            count as usize,
-            split.extra_bits as f32,
-        );
-        v += count;
+    let l = config.lsb_in_token;
+    let mut n = config.split_exponent;
+    let small = packing::power(n) as usize;
+    if !line_kept(symbols, ready, 128 * cluster, 256 * cluster, small, 0.0) {
+        return false;
     }
-    bad == 0
+    let mut from = 128 * cluster + small;
+    while n < 8 {
+        let to = 256 * cluster + packing::power(n) as usize;
+        if octave_kept(symbols, ready, from, to, m, l, n - m - l) {
+            from += packing::power(m + l) as usize;
+            n += 1;
+        } else {
+            return false;
+        }
+    }
+    true
 }
 
 // Check 6.

@@ -10,13 +10,14 @@ use lib.Dec.{T, ltb, le→leb, lit<, lit≤}
 use lib.IntN.{ℤ, pos}
 use lib.ListN.{getD}
 use lib.Ieee.{Float, nan, inf, fin, add, sum, round, ofInt, inFloat, le, lt, eq, up, down, binary32}
-use lib.Ieee.Fits.{up-pos}
+use lib.Ieee.Fits.{up-pos, ofInt-fits}
+use lib.Ieee.Order.{round-mono}
 use lib.Ieee.Scale.{finite}
 use borrow.Author.Tests.{lt-ltb, le-ltb, ne-eqb}
 use Rattle.costs.specs.Cost.{cost, bounded, capped}
 use Rattle.costs.proofs.View.{Cost, at-inf, at-fin, view}
-use Rattle.costs.proofs.Order.{le→cross}
-use Rattle.costs.proofs.Sum.{round-cost, inf-add}
+use Rattle.costs.proofs.Order.{le→cross, lt-le-trans}
+use Rattle.costs.proofs.Sum.{round-cost, inf-add, add-cost, add-comm-cost, le-add}
 use Rattle.costs.proofs.Bound.{round-bounded, bounded-capped, capped-cost, add-capped, add-finite, bounded-finite}
 use Rattle.packing.proofs.Hybrid.{symbol-fits, extra-bits-few}
 use Rattle.prices.specs.Book.{Book, at, clusterValid, clusterSymbol, clusterExtra, clusterPrice, price}
@@ -132,6 +133,31 @@ pub zero-sum-cost : (x : Float) → symbolPrice x ≡ true → T (cost (add bina
 zero-sum-cost x h =
     subst (λ (y : Float). T (cost (add binary32 x y))) zero-extra
     (capped-cost binary32 1041 149 _ (sum-capped 0 (lit≤ {m = 0} {n = 17} tt) x h))
+
+-- a symbol price plus at least one extra bit is above 0
+module _ (n : ℕ) (some : 0 < n) where
+  extra-above : T (lt (fin false 0 (pos 0)) (ofInt binary32 (pos n)))
+  unfolding lt cost ofInt
+  extra-above =
+      lt-le-trans (fin false 0 (pos 0)) (fin false 1 (pos 0)) (ofInt binary32 (pos n)) tt tt (extra-cost n) tt
+      (round-mono binary32 1 1 n 1 (lit< {m = 0} {n = 1} tt) (lit< {m = 0} {n = 1} tt) (omega arith))
+
+  cost-above : (x : Float) → T (cost x) → T (lt (fin false 0 (pos 0)) (add binary32 x (ofInt binary32 (pos n))))
+  unfolding cost
+  cost-above x h =
+      let e = ofInt binary32 (pos n) in
+      lt-le-trans (fin false 0 (pos 0)) e (add binary32 x e) tt (extra-cost n) (add-cost binary32 x e h (extra-cost n)) extra-above
+      (subst (λ (y : Float). T (le e y)) (add-comm-cost binary32 e x (extra-cost n) h) (le-add binary32 e x (extra-cost n) h (ofInt-fits binary32 (pos n))))
+
+  pub sum-above : (x : Float) → symbolPrice x ≡ true → T (lt (fin false 0 (pos 0)) (add binary32 x (ofInt binary32 (pos n))))
+  unfolding cost
+  sum-above x h =
+      ⊎-elim (λ c. cost-above x (capped-cost binary32 1024 149 x c))
+      (λ z.
+      subst⁻¹ (λ (y : Float). T (lt (fin false 0 (pos 0)) (add binary32 y (ofInt binary32 (pos n))))) (z .1)
+      (subst⁻¹ (λ (y : Float). T (lt (fin false 0 (pos 0)) y)) (negative-zero-add (z .0) (ofInt binary32 (pos n)) (extra-cost n))
+      (cost-above (fin false 0 (z .0)) tt)))
+      (of-symbol x h)
 
 pub symbol-within : (configs : List ℕ) (k v : ℕ) → clusterValid configs k ≡ true → v ≤ 131071 → clusterSymbol configs k v < 128
 unfolding clusterValid clusterSymbol

@@ -1,9 +1,9 @@
 -- `each n p` says that p holds of each number below n.
-use Prim.Native.Nat.{ℕ, zero, suc, _+_, _<_}
+use Prim.Native.Nat.{ℕ, zero, suc, _+_, _-_, _*_, _<_, _≤_}
 use mathlib.Core.Path.{_≡_, refl, sym, ap, ap₂, _∙_}
 use mathlib.Core.Bool.{Bool, true, false, _&&_, false≢true, and-true, and-assoc}
 use native.Mathlib.Omega.{arith}
-use native.Mathlib.Nat.{not-suc-le-zero, zero-add, add-zero, add-suc}
+use native.Mathlib.Nat.{not-suc-le-zero, zero-add, add-zero, add-suc, zero-mul}
 use native.Mathlib.Numerals.{add-one}
 use lib.Dec.{eqb}
 use borrow.Author.Tests.{eqb-true, eqb-false, ne-eqb}
@@ -66,3 +66,17 @@ pub each-run : (p : ℕ → Bool) (a n : ℕ) → each (a + n) p ≡ (each a p &
 unfolding each
 each-run p a zero = rw (add-zero a) (sym (and-true (each a p)))
 each-run p a (suc n) = rw add-suc (ap (λ (t : Bool). t && p (a + n)) (each-run p a n) ∙ and-assoc (each a p) (each n (λ i. p (a + i))) (p (a + n)))
+
+-- n blocks of c numbers
+pub each-blocks : (p : ℕ → Bool) (c n : ℕ) → each (n * c) p ≡ each n (λ i. each c (λ t. p (i * c + t)))
+unfolding each
+each-blocks p c zero = rw (zero-mul c) refl
+each-blocks p c (suc n) =
+    let more : suc n * c ≡ n * c + c = omega arith in
+    rw more (each-run p (n * c) c ∙ ap (λ (b : Bool). b && each c (λ t. p (n * c + t))) (each-blocks p c n))
+
+-- what fails below a number fails below a greater one
+pub each-cut : (p : ℕ → Bool) (a c : ℕ) → a ≤ c → each a p ≡ false → each c p ≡ false
+each-cut p a c h e =
+    let more : c ≡ a + (c - a) = omega arith in
+    rw more (each-run p a (c - a) ∙ ap (λ (b : Bool). b && each (c - a) (λ i. p (a + i))) e)

@@ -1,112 +1,110 @@
--- `book_rows::row_kept` meets its contract: the head, and then run after run. Assumes nothing.
+-- `book_rows::row_kept` meets its contract: the values below 2 ^ s, and then one octave after the other. Assumes nothing.
 use Prim.Native.Nat.{ℕ, _+_, _-_, _*_, _^_, _≤_}
-use mathlib.Core.Path.{_≡_, refl, sym, ap, ap₂, _∙_, subst, subst⁻¹, subst₂}
-use mathlib.Core.Bool.{false}
-use mathlib.Core.List.{List}
+use mathlib.Core.Path.{_≡_, refl, sym, ap, _∙_, subst, subst⁻¹}
+use mathlib.Core.Bool.{Bool, true, false}
 use native.Mathlib.Omega.{arith}
-use native.Mathlib.Nat.{le-of-eq, lt-of-lt-of-le}
-use lib.Dec.{T, eqb}
-use lib.IntN.{pos}
+use native.Mathlib.Nat.{le-of-eq}
 use lib.ListN.{getD}
-use lib.Ieee.{Float, fin, add, ofInt, ofBits, binary32}
-use lib.Pow.{pow-pos, pow-mono}
+use lib.IntN.{pos}
+use lib.Ieee.{fin, ofBits}
+use lib.Pow.{pow-mono}
+use Rattle.packing.proofs.Hybrid.{Valid}
+use Rattle.prices.specs.Book.{at}
+use Rattle.prices.specs.Checks.{each, symbolPrice, rowKept}
+use Rattle.prices.proofs.Each.{each-cut}
+use Rattle.prices.proofs.Costs.{zero-sum-cost}
+use Rattle.book_rows.specs.Row.{lineKept, octaveKept}
+use Rattle.book_rows.proofs.Octave.{keptAt, base, config-is, head-all, octave-step, octave-room, first-base, next-base}
 use borrow.Author.Needs.{needs}
-use Rattle.packing.specs.Hybrid.{topBit}
-use Rattle.packing.proofs.Hybrid.{top-from, top-most}
-use Rattle.costs.specs.Cost.{cost}
-use Rattle.prices.specs.Book.{at, clusterPrice}
-use Rattle.prices.specs.Checks.{each, sameBits, rowKept}
-use Rattle.prices.proofs.Costs.{zero-sum-cost, extra-few, extra-exact}
-use Rattle.book_rows.specs.Row.{lineKept, blockKept}
-use Rattle.book_rows.proofs.Runs.{Begin, power-begins, next, stays, config-is, head-all, run-all, period-fits, turns-room, turns-cost}
+use borrow.Author.Tests.{not-true, not-false}
 use Rattle.book_rows.proofs.row_kept.Statement.{statement}
 use Rattle.book_rows.proofs.row_kept.Tie as tie
 
 abbrev Inv-loop : tie.InvT-loop
-Inv-loop configs symbols ready cluster m period v₀ bad₀ v bad = (2 ^ getD configs (3 * cluster) 0 ≤ v) × (v ≤ 256) × Begin (getD configs (3 * cluster + 1) 0) v × (bad ≤ v) × (each v (λ w. sameBits (at ready (256 * cluster + w)) (clusterPrice configs symbols cluster w)) ≡ eqb bad 0)
+Inv-loop configs symbols ready cluster m l n₀ small from₀ n from =
+    (getD configs (3 * cluster) 0 ≤ n)
+    × (n ≤ 8)
+    × (from ≡ 128 * cluster + base (getD configs (3 * cluster) 0) m l n)
+    × (each (2 ^ n) (keptAt configs symbols ready cluster) ≡ true)
 
 abbrev μ-loop : tie.MeasureT-loop
-μ-loop configs symbols ready cluster m period v₀ bad₀ v bad = 256 - v
+μ-loop configs symbols ready cluster m l n₀ small from₀ n from = 8 - n
 
-abbrev first : tie.At-loop Inv-loop μ-loop → tie.Start Inv-loop μ-loop
-first c = c .before .before .before .before .before .before .before .before
+abbrev first : tie.At-loop Inv-loop μ-loop → tie.After-config-of Inv-loop μ-loop
+first c = c .before .before .before .before
 
 -- the configuration (s, m, l)
-abbrev split-at : tie.Start Inv-loop μ-loop → ℕ
-split-at c = getD (c .args .configs .now) (3 * c .args .cluster) 0
+abbrev start : tie.After-config-of Inv-loop μ-loop → tie.Start Inv-loop μ-loop
+start c = c .before .before .before .before
 
-abbrev msb : tie.Start Inv-loop μ-loop → ℕ
-msb c = getD (c .args .configs .now) (3 * c .args .cluster + 1) 0
+abbrev s-of : tie.After-config-of Inv-loop μ-loop → ℕ
+s-of c = getD (start c .args .configs .now) (3 * start c .args .cluster) 0
 
-abbrev lsb : tie.Start Inv-loop μ-loop → ℕ
-lsb c = getD (c .args .configs .now) (3 * c .args .cluster + 2) 0
+abbrev m-of : tie.After-config-of Inv-loop μ-loop → ℕ
+m-of c = c .config-of .result .«msb_in_token»
 
-sizes : (c : tie.Start Inv-loop μ-loop) → (msb c + lsb c ≤ split-at c) × (split-at c ≤ 6)
-sizes c = config-is (c .args .configs .now) (c .args .symbols .now) (c .args .cluster) (split-at c) (msb c) (lsb c) refl refl refl (c .pre .valid)
+abbrev l-of : tie.After-config-of Inv-loop μ-loop → ℕ
+l-of c = c .config-of .result .«lsb_in_token»
 
--- the first 2 ^ s values, and the period
-headed : (c : tie.After-power2 Inv-loop μ-loop) → c .power2 .result ≡ 2 ^ split-at (c .before .before .before .before .before .before)
-headed c = c .power2 .ensures ∙ ap (λ (n : ℕ). 2 ^ n) (c .before .before .config-of .ensures .0)
+abbrev kept : tie.After-config-of Inv-loop μ-loop → ℕ → Bool
+kept c = keptAt (start c .args .configs .now) (start c .args .symbols .now) (start c .args .ready .now) (start c .args .cluster)
 
-periodic : (c : tie.After-power Inv-loop μ-loop) → c .power .result ≡ 2 ^ lsb (c .before .before .before .before .before)
-periodic c = c .power .ensures ∙ ap (λ (n : ℕ). 2 ^ n) (c .before .config-of .ensures .1 .1)
+sizes : (c : tie.After-config-of Inv-loop μ-loop) → Valid (s-of c) (m-of c) (l-of c)
+sizes c =
+    let a = start c .args in
+    config-is (a .configs .now) (a .symbols .now) (a .ready .now) (a .cluster) (s-of c) (m-of c) (l-of c) refl (sym (c .config-of .ensures .1 .0)) (sym (c .config-of .ensures .1 .1)) (start c .pre .valid)
 
--- the top bit of v
-tops : (c : tie.In-loop Inv-loop μ-loop) → (split-at (first (c .before)) ≤ topBit (c .before .loop .v)) × (topBit (c .before .loop .v) ≤ 16)
-tops c =
-    let inv = c .before .loop .inv in (
-      top-from (split-at (first (c .before))) 0 0 (c .before .loop .v) (inv .0),
-      top-most (c .before .loop .v) (omega arith) (lt-of-lt-of-le (pow-pos (split-at (first (c .before)))) (inv .0)),
-    )
+-- the values below 2 ^ s
+headed : (c : tie.After-power Inv-loop μ-loop) → c .power .result ≡ 2 ^ s-of (c .before)
+headed c = c .power .ensures ∙ ap (λ (n : ℕ). 2 ^ n) (c .before .config-of .ensures .0)
 
--- the length of its run
-counted : (c : tie.After-power3 Inv-loop μ-loop) → c .power3 .result ≡ 2 ^ (topBit (c .before .before .before .before .before .loop .v) - msb (first (c .before .before .before .before .before)))
-counted c =
-    let loop = c .before .before .before .before .before in
-    c .power3 .ensures
-    ∙ ap₂ (λ (n m : ℕ). 2 ^ (n - m)) (c .before .top-bit .ensures) (loop .before .before .before .before .config-of .ensures .1 .0)
+head-told : (c : tie.After-line-kept Inv-loop μ-loop) → c .line-kept .result ≡ each (2 ^ s-of (c .before .before)) (kept (c .before .before))
+unfolding ofBits
+head-told c =
+    let f = c .before .before in
+    let a = start f .args in
+    c .line-kept .ensures
+    ∙ ap (λ (n : ℕ). each n (lineKept (a .symbols .now) (a .ready .now) (128 * a .cluster) (256 * a .cluster) (fin false 0 (pos 0)))) (headed (c .before))
+    ∙ head-all (a .configs .now) (a .symbols .now) (a .ready .now) (a .cluster) (s-of f) (m-of f) (l-of f) refl (sym (f .config-of .ensures .1 .0)) (sym (f .config-of .ensures .1 .1))
 
-room : (c : tie.After-power3 Inv-loop μ-loop) → c .before .before .before .before .before .loop .v + c .power3 .result ≤ 256
-room c =
-    let inl = c .before .before .before .before in
-    let loop = inl .before in
-    let start = first loop in
-    subst⁻¹ (λ (n : ℕ). loop .loop .v + n ≤ 256) (counted c)
-    (stays (split-at start) (msb start) (loop .loop .v) (omega (arith, sizes start)) (loop .loop .inv .0) (loop .loop .inv .2) 8 (inl .loop-test .taken))
+-- the values with top bit n
+whole : (c : tie.At-loop Inv-loop μ-loop) → let f = first c in c .loop .n ≡ m-of f + l-of f + (c .loop .n - m-of f - l-of f)
+whole c = omega (arith, sizes (first c), c .loop .inv .0)
 
--- the block that the code compared
-block-is : (symbols ready : List Float) (at-symbols to n n′ p p′ t t′ e e′ r : ℕ) → n ≡ n′ → p ≡ p′ → t ≡ t′ → e ≡ e′
-    → each n (blockKept symbols ready (at-symbols + t) to p (ofInt binary32 (pos e))) ≡ eqb r 0
-    → each n′ (blockKept symbols ready (at-symbols + t′) to p′ (ofInt binary32 (pos e′))) ≡ eqb r 0
-block-is symbols ready at-symbols to n n′ p p′ t t′ e e′ r en ep et ee h = rw (← en, ← ep, ← et, ← ee) h
+room : (c : tie.In-loop Inv-loop μ-loop) → let f = first (c .before) in base (s-of f) (m-of f) (l-of f) (c .before .loop .n) + 2 ^ (m-of f + l-of f) ≤ 128
+room c = let f = first (c .before) in octave-room (s-of f) (m-of f) (l-of f) (sizes f) (c .before .loop .n) (c .loop-test .taken) (c .before .loop .inv .0)
+
+stepped : (c : tie.After-octave-kept Inv-loop μ-loop) → each (2 ^ (c .before .before .before .loop .n + 1)) (kept (first (c .before .before .before))) ≡ c .octave-kept .result
+stepped c =
+    let at-loop = c .before .before .before in
+    let f = first at-loop in
+    let a = start f .args in
+    let n = at-loop .loop .n in
+    let inv = at-loop .loop .inv in
+    octave-step (a .configs .now) (a .symbols .now) (a .ready .now) (a .cluster) (s-of f) (m-of f) (l-of f) refl (sym (f .config-of .ensures .1 .0)) (sym (f .config-of .ensures .1 .1)) n (n - m-of f - l-of f) (at-loop .loop .from) (whole at-loop) (inv .0) (inv .2) (c .octave-kept .result)
+    (c .octave-kept .ensures ∙ ap (λ (x : ℕ). octaveKept (a .symbols .now) (a .ready .now) (at-loop .loop .from) (256 * a .cluster + x) (m-of f) (l-of f) (n - m-of f - l-of f)) (c .before .power2 .ensures))
+    (inv .3)
 
 config-of-requires : tie.Need-config-of-requires Inv-loop μ-loop
 config-of-requires c κs = search needs
 
 power-requires : tie.Need-power-requires Inv-loop μ-loop
-power-requires c κs = omega (arith, sizes (c .before .before .before .before), c .config-of .ensures)
+power-requires c κs = omega (arith, sizes c, c .config-of .ensures)
 
-cast-period : tie.Need-cast-period Inv-loop μ-loop
-cast-period c = search needs
+cast-small : tie.Need-cast-small Inv-loop μ-loop
+cast-small c = search needs
 
-power-requires-2 : tie.Need-power-requires-2 Inv-loop μ-loop
-power-requires-2 c κs = omega (arith, sizes (c .before .before .before .before .before), c .before .config-of .ensures)
+mul-line-kept : tie.Need-mul-line-kept Inv-loop μ-loop
+mul-line-kept c = search needs
 
-mul-line-differs : tie.Need-mul-line-differs Inv-loop μ-loop
-mul-line-differs c = search needs
+mul-line-kept-2 : tie.Need-mul-line-kept-2 Inv-loop μ-loop
+mul-line-kept-2 c = search needs
 
-mul-line-differs-2 : tie.Need-mul-line-differs-2 Inv-loop μ-loop
-mul-line-differs-2 c = search needs
-
-cast-line-differs : tie.Need-cast-line-differs Inv-loop μ-loop
-cast-line-differs c = search needs
-
-line-differs-requires : tie.Need-line-differs-requires Inv-loop μ-loop
+line-kept-requires : tie.Need-line-kept-requires Inv-loop μ-loop
 unfolding ofBits
-line-differs-requires c κs =
-    let start = c .before .before .before .before .before .before in
-    let row = start .pre in
-    let small : 2 ^ split-at start ≤ 2 ^ 6 = pow-mono (sizes start .1) in
+line-kept-requires c κs =
+    let row = start (c .before) .pre in
+    let small : 2 ^ s-of (c .before) ≤ 2 ^ 6 = pow-mono (sizes (c .before) .small) in
     let size = headed c in (
       omega (arith, size),
       (
@@ -118,140 +116,103 @@ line-differs-requires c κs =
       ),
     )
 
-loop-holds : tie.Need-loop-holds Inv-loop μ-loop
-unfolding ofBits
-loop-holds c =
-    let start = c .before .before .before .before .before .before .before in
-    let a = start .args in
-    let size = headed (c .before) in
-    let small : 2 ^ split-at start ≤ 2 ^ 6 = pow-mono (sizes start .1) in (
-      le-of-eq (sym size),
-      omega (arith, size),
-      power-begins (msb start) (split-at start) (c .before .power2 .result) (omega (arith, sizes start)) size,
-      c .line-differs .ensures .1,
-      subst⁻¹ (λ (n : ℕ). each n (λ w. sameBits (at (a .ready .now) (256 * a .cluster + w)) (clusterPrice (a .configs .now) (a .symbols .now) (a .cluster) w)) ≡ eqb (c .line-differs .result) 0) size
-          (sym (head-all (a .configs .now) (a .symbols .now) (a .cluster) (split-at start) (msb start) (lsb start) refl refl refl (a .ready .now))
-          ∙ subst (λ (n : ℕ). each n (lineKept (a .symbols .now) (a .ready .now) (128 * a .cluster) (256 * a .cluster) (fin false 0 (pos 0))) ≡ eqb (c .line-differs .result) 0) size (c .line-differs .ensures .0)),
-    )
-
-cluster-split-requires : tie.Need-cluster-split-requires Inv-loop μ-loop
-cluster-split-requires c κs = search needs
+returns : tie.Need-returns Inv-loop μ-loop
+unfolding rowKept
+returns c =
+    sym (each-cut _ (2 ^ s-of (c .before .before .before)) 256 (pow-mono {j = 8} (omega (arith, sizes (c .before .before .before)))) (sym (head-told (c .before)) ∙ not-true _ (c .if1 .taken)))
 
 mul-from : tie.Need-mul-from Inv-loop μ-loop
 mul-from c = search needs
 
-cast-from : tie.Need-cast-from Inv-loop μ-loop
-cast-from c = search needs
-
 add-from : tie.Need-add-from Inv-loop μ-loop
 add-from c = search needs
 
-top-bit-requires : tie.Need-top-bit-requires Inv-loop μ-loop
-top-bit-requires c κs = lt-of-lt-of-le (pow-pos (split-at (first (c .before .before .before)))) (c .before .before .before .loop .inv .0)
+loop-holds : tie.Need-loop-holds Inv-loop μ-loop
+loop-holds c =
+    let f = c .before .before .before in
+    let e = f .config-of .ensures .0 in (
+      le-of-eq (sym e),
+      omega (arith, sizes f, e),
+      ap (λ (x : ℕ). 128 * start f .args .cluster + x) (headed (c .before .before) ∙ first-base (s-of f) (m-of f) (l-of f) ∙ ap (base (s-of f) (m-of f) (l-of f)) (sym e)),
+      ap (λ (n : ℕ). each (2 ^ n) (kept f)) e ∙ sym (head-told (c .before)) ∙ not-false _ (c .if1 .left),
+    )
 
-sub-power : tie.Need-sub-power Inv-loop μ-loop
-sub-power c =
-    let loop = c .before .before .before .before in
-    omega (arith, tops (c .before .before .before), sizes (first loop), c .top-bit .ensures, loop .before .before .before .before .config-of .ensures)
+mul-to : tie.Need-mul-to Inv-loop μ-loop
+mul-to c = search needs
 
-power-requires-3 : tie.Need-power-requires-3 Inv-loop μ-loop
-power-requires-3 c κs = omega (arith, tops (c .before .before .before), c .top-bit .ensures)
+power-requires-2 : tie.Need-power-requires-2 Inv-loop μ-loop
+power-requires-2 c κs = search needs
 
-mul-block-differs : tie.Need-mul-block-differs Inv-loop μ-loop
-mul-block-differs c = search needs
+cast-to : tie.Need-cast-to Inv-loop μ-loop
+cast-to c = search needs
 
-cast-block-differs : tie.Need-cast-block-differs Inv-loop μ-loop
-cast-block-differs c = search needs
+add-to : tie.Need-add-to Inv-loop μ-loop
+add-to c = search needs
 
-add-block-differs : tie.Need-add-block-differs Inv-loop μ-loop
-add-block-differs c = search needs
+sub-octave-kept : tie.Need-sub-octave-kept Inv-loop μ-loop
+sub-octave-kept c = omega (arith, sizes (first (c .before .before)))
 
-cast-block-differs-2 : tie.Need-cast-block-differs-2 Inv-loop μ-loop
-cast-block-differs-2 c = search needs
+sub-octave-kept-2 : tie.Need-sub-octave-kept-2 Inv-loop μ-loop
+sub-octave-kept-2 c = omega (arith, sizes (first (c .before .before)))
 
-int-to-float-block-differs : tie.Need-int-to-float-block-differs Inv-loop μ-loop
-int-to-float-block-differs c =
-    let split = c .before .before .before .before in
-    let a = first (split .before .before) .args in
-    rw (split .cluster-split .ensures .1)
-    (extra-exact _ (extra-few (a .configs .now) (a .cluster) (split .before .before .loop .v) (omega (arith, split .before .loop-test .taken))))
-
-block-differs-requires : tie.Need-block-differs-requires Inv-loop μ-loop
-block-differs-requires c κs =
-    let p3 = c .before in
-    let split = p3 .before .before .before in
-    let inl = split .before in
-    let loop = inl .before in
-    let start = first loop in
-    let a = start .args in
-    let v = loop .loop .v in
-    let inv = loop .loop .inv in
-    let period = periodic (loop .before .before .before) in
-    let count = counted p3 in
-    let symbol = split .cluster-split .ensures .0 in
-    let extra = split .cluster-split .ensures .1 in
-    let fits = period-fits (a .configs .now) (a .symbols .now) (a .cluster) (split-at start) (msb start) (lsb start) refl refl refl (a .ready .now) (start .pre) (sizes start .0) v (inv .0) (inl .loop-test .taken) (inv .2) in
-    let among = turns-room (a .configs .now) (a .symbols .now) (a .cluster) (split-at start) (msb start) (lsb start) refl refl refl (a .ready .now) (start .pre) (sizes start .0) v (inv .0) (inl .loop-test .taken) (inv .2) in
-    let costs = turns-cost (a .configs .now) (a .symbols .now) (a .cluster) (split-at start) (msb start) (lsb start) refl refl refl (a .ready .now) (start .pre) (sizes start .0) v (inv .0) (inl .loop-test .taken) (inv .2) in (
-      omega (arith, period, pow-pos (lsb start)),
+octave-kept-requires : tie.Need-octave-kept-requires Inv-loop μ-loop
+octave-kept-requires c κs =
+    let loop = c .before .before .loop in
+    let f = first (c .before .before) in
+    let a = start f .args in
+    let row = start f .pre in
+    let n = loop .n in
+    let few : 2 ^ n ≤ 2 ^ 7 = pow-mono {j = 7} (omega arith) in
+    let same : 2 ^ n ≡ 2 ^ (m-of f + l-of f + (n - m-of f - l-of f)) = ap (λ (k : ℕ). 2 ^ k) (whole (c .before .before)) in (
+      omega (arith, whole (c .before .before)),
       (
-        omega (arith, period, count, fits),
+        omega (arith, room (c .before), loop .inv .2, row .priced),
         (
-          omega (arith, room p3),
-          (
-            omega (arith, among, period, symbol, start .pre .priced),
-            (
-              omega (arith, room p3, start .pre .kept),
-              λ i h.
-                  subst₂ (λ (t e : ℕ). T (cost (add binary32 (at (a .symbols .now) (128 * a .cluster + t + i)) (ofInt binary32 (pos e))))) (sym symbol) (sym extra)
-                  (costs i (omega (arith, period))),
-            ),
-          ),
+          omega (arith, c .power2 .ensures, few, same, row .kept),
+          λ i h.
+              subst⁻¹ (λ (w : ℕ). symbolPrice (at (a .symbols .now) w) ≡ true) (omega (arith, loop .inv .2))
+              (row .prices (base (s-of f) (m-of f) (l-of f) n + i) (omega (arith, room (c .before)))),
         ),
       ),
     )
 
-add-bad : tie.Need-add-bad Inv-loop μ-loop
-add-bad c = omega (arith, room (c .before .before), c .block-differs .ensures .1)
+add-power : tie.Need-add-power Inv-loop μ-loop
+add-power c = omega (arith, sizes (first (c .before .before .before .before)))
 
-add-v : tie.Need-add-v Inv-loop μ-loop
-add-v c = omega (arith, room (c .before .before))
+power-requires-3 : tie.Need-power-requires-3 Inv-loop μ-loop
+power-requires-3 c κs = omega (arith, sizes (first (c .before .before .before .before)))
+
+cast-from : tie.Need-cast-from Inv-loop μ-loop
+cast-from c = search needs
+
+add-from-2 : tie.Need-add-from-2 Inv-loop μ-loop
+add-from-2 c = omega (arith, c .power3 .ensures, room (c .before .before .before .before), start (first (c .before .before .before .before .before)) .pre .priced)
+
+add-n : tie.Need-add-n Inv-loop μ-loop
+add-n c = search needs
 
 loop-less : tie.Need-loop-less Inv-loop μ-loop
-loop-less c =
-    let p3 = c .before .before in
-    let loop = p3 .before .before .before .before .before in
-    omega (arith, room p3, counted p3, pow-pos (topBit (loop .loop .v) - msb (first loop)))
+loop-less c = search needs
 
 loop-again : tie.Need-loop-again Inv-loop μ-loop
 loop-again c =
-    let p3 = c .before .before in
-    let split = p3 .before .before .before in
-    let loop = split .before .before in
-    let start = first loop in
-    let a = start .args in
-    let v = loop .loop .v in
-    let inv = loop .loop .inv in
-    let count = counted p3 in
-    let period = periodic (loop .before .before .before) in (
-      omega (arith, inv .0),
-      room p3,
-      subst⁻¹ (λ (n : ℕ). Begin (msb start) (v + n)) count (next (split-at start) (msb start) v (omega (arith, sizes start)) (inv .0) (inv .2)),
-      omega (arith, c .block-differs .ensures .1),
-      subst⁻¹ (λ (n : ℕ). each (v + n) (λ w. sameBits (at (a .ready .now) (256 * a .cluster + w)) (clusterPrice (a .configs .now) (a .symbols .now) (a .cluster) w)) ≡ eqb (loop .loop .bad + c .block-differs .result) 0) count
-          (run-all (a .configs .now) (a .symbols .now) (a .cluster) (split-at start) (msb start) (lsb start) refl refl refl (a .ready .now)
-          (sizes start .0) v (inv .0) (inv .2) (loop .loop .bad) (c .block-differs .result) (inv .4)
-          (block-is (a .symbols .now) (a .ready .now) (128 * a .cluster) (256 * a .cluster + v) _ _ _ _ _ _ _ _ (c .block-differs .result) count period (split .cluster-split .ensures .0) (split .cluster-split .ensures .1) (c .block-differs .ensures .0))),
+    let at-loop = c .before .before .before .before .before in
+    let f = first at-loop in (
+      omega arith,
+      omega arith,
+      omega (arith, c .power3 .ensures, at-loop .loop .inv .2, next-base (s-of f) (m-of f) (l-of f) (at-loop .loop .n) (at-loop .loop .inv .0)),
+      stepped (c .before .before) ∙ c .before .if2 .taken,
     )
 
-returns : tie.Need-returns Inv-loop μ-loop
+returns-2 : tie.Need-returns-2 Inv-loop μ-loop
 unfolding rowKept
-returns c =
-    let loop = c .before .loop in
-    let a = first (c .before) .args in
-    sym
-    (subst (λ (n : ℕ). each n (λ w. sameBits (at (a .ready .now) (256 * a .cluster + w)) (clusterPrice (a .configs .now) (a .symbols .now) (a .cluster) w)) ≡ eqb (loop .bad) 0)
-    (omega arith) (loop .inv .4))
+returns-2 c = sym (each-cut _ (2 ^ (c .before .before .before .before .loop .n + 1)) 256 (pow-mono {j = 8} (omega arith)) (stepped (c .before) ∙ c .if2 .left))
+
+returns-3 : tie.Need-returns-3 Inv-loop μ-loop
+unfolding rowKept
+returns-3 c =
+    let end : c .before .loop .n ≡ 8 = omega arith in
+    sym (subst (λ (n : ℕ). each (2 ^ n) (kept (first (c .before))) ≡ true) end (c .before .loop .inv .3))
 
 pub row-kept-spec : {M : Type 1} → statement M
 row-kept-spec =
@@ -261,28 +222,27 @@ row-kept-spec =
     μ-loop
     config-of-requires
     power-requires
-    cast-period
-    power-requires-2
-    mul-line-differs
-    mul-line-differs-2
-    cast-line-differs
-    line-differs-requires
-    loop-holds
-    cluster-split-requires
+    cast-small
+    mul-line-kept
+    mul-line-kept-2
+    line-kept-requires
+    returns
     mul-from
-    cast-from
     add-from
-    top-bit-requires
-    sub-power
+    loop-holds
+    mul-to
+    power-requires-2
+    cast-to
+    add-to
+    sub-octave-kept
+    sub-octave-kept-2
+    octave-kept-requires
+    add-power
     power-requires-3
-    mul-block-differs
-    cast-block-differs
-    add-block-differs
-    cast-block-differs-2
-    int-to-float-block-differs
-    block-differs-requires
-    add-bad
-    add-v
+    cast-from
+    add-from-2
+    add-n
     loop-less
     loop-again
-    returns)
+    returns-2
+    returns-3)

@@ -1,14 +1,14 @@
--- `book_rows::line_differs` meets its contract. Assumes nothing.
+-- `book_rows::line_kept` meets its contract. Assumes nothing.
 use Prim.Native.Nat.{ℕ, _-_, _≤_}
-use mathlib.Core.Path.{_≡_, refl, subst}
+use mathlib.Core.Path.{_≡_, refl, sym, subst}
 use native.Mathlib.Omega.{arith}
 use lib.Dec.{eqb}
 use borrow.Author.Needs.{needs}
 use Rattle.prices.specs.Checks.{each}
 use Rattle.prices.proofs.Each.{each-count}
 use Rattle.book_rows.specs.Row.{lineKept}
-use Rattle.book_rows.proofs.line_differs.Statement.{statement}
-use Rattle.book_rows.proofs.line_differs.Tie as tie
+use Rattle.book_rows.proofs.line_kept.Statement.{statement}
+use Rattle.book_rows.proofs.line_kept.Tie as tie
 
 abbrev Inv-loop : tie.InvT-loop
 Inv-loop symbols ready from to count extra bad₀ i₀ bad i = (i ≤ count) × (bad ≤ i) × (each i (lineKept symbols ready from to extra) ≡ eqb bad 0)
@@ -65,10 +65,10 @@ loop-again c =
 returns : tie.Need-returns Inv-loop μ-loop
 returns c =
     let a = c .before .before .before .before .args in
-    (subst (λ (n : ℕ). each n (lineKept (a .symbols .now) (a .ready .now) (a .from) (a .to) (a .extra)) ≡ eqb (c .before .loop .bad) 0) (omega arith) (c .before .loop .inv .2), omega arith)
+    sym (subst (λ (n : ℕ). each n (lineKept (a .symbols .now) (a .ready .now) (a .from) (a .to) (a .extra)) ≡ eqb (c .before .loop .bad) 0) (omega arith) (c .before .loop .inv .2))
 
-pub line-differs-spec : {M : Type 1} → statement M
-line-differs-spec =
+pub line-kept-spec : {M : Type 1} → statement M
+line-kept-spec =
     tie.close
     (tie.spec
     Inv-loop
