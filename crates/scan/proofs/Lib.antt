@@ -1,4 +1,3 @@
-mod Bits
 mod Bools
 mod Counts
 mod Marks

@@ -1,7 +1,7 @@
 // Check 11: the scan holds each number below its length once.
 ghost use mathlib.Core.Path.{_≡_};
 ghost use mathlib.Core.Bool.{false};
-ghost use Prim.Native.Nat.{ℕ, _*_, _<_, _≤_};
+ghost use Prim.Native.Nat.{ℕ, _<_, _≤_};
 ghost use lib.ListN.{length, getD};
 ghost use Rattle.scan.specs.Scan.{eachOnce};
 
@@ -27,28 +27,6 @@ fn mark_bools(scan: &[u32], marks: &mut [bool]) -> bool
             return false;
         }
         marks[x] = true;
-        k += 1;
-    }
-    true
-}
-
-// The same with 64 marks in a word.
-fn mark_bits(scan: &[u32], words: &mut [u64]) -> bool
-    requires { ⌜ length (now scan) ≤ 64 * length (now words) ⌝ }
-    requires { ⌜ ((j : ℕ) → j < length (now words) → getD (now words) j 0 ≡ 0) ⌝ }
-    ensures { λ r. ⌜ r ≡ eachOnce (now (scan .entry)) ⌝ }
-{
-    let mut k = 0;
-    while k < scan.len() {
-        let x = wide(scan[k]);
-        if x >= scan.len() {
-            return false;
-        }
-        let word = words[x / 64];
-        if (word >> (x % 64)) % 2 != 0 {
-            return false;
-        }
-        words[x / 64] = word + (1 << (x % 64));
         k += 1;
     }
     true
@@ -82,11 +60,11 @@ fn each_once_65536(scan: &[u32]) -> bool
     requires { ⌜ length (now scan) ≤ 65536 ⌝ }
     ensures { λ r. ⌜ r ≡ eachOnce (now (scan .entry)) ⌝ }
 {
-    let mut words: [u64; 1024] = [0; 1024];
-    mark_bits(scan, &mut words)
+    let mut marks = [false; 65536];
+    mark_bools(scan, &mut marks)
 }
 
-// A short scan clears few marks. The longest takes bits, since every call pays for the pages of the largest frame.
+// A short scan clears few marks.
 pub fn each_once(scan: &[u32]) -> bool
     requires { ⌜ length (now scan) ≤ 65536 ⌝ }
     ensures { λ r. ⌜ r ≡ eachOnce (now (scan .entry)) ⌝ }
