@@ -1,7 +1,8 @@
 -- One way: what the code adds up is its cost, and the byte names it. Assumes nothing.
-use mathlib.Core.Path.{_≡_, sym, ap, _∙_, subst}
+use mathlib.Core.Path.{_≡_, refl, sym, ap, _∙_, subst}
 use mathlib.Core.List.{List, [], _∷_, _++_, List·Memᴰ}
-use Prim.Native.Nat.{ℕ, suc, _+_, _*_, _/_, _%_, _≤_, _<_}
+use Prim.Native.Nat.{ℕ, _+_, _*_, _/_, _%_, _≤_, _<_}
+use native.Mathlib.Nat.{add-zero}
 use native.Mathlib.Omega.{arith}
 use lib.IntN.{ℤ, pos}
 use lib.ListN.{length, getD, take}
@@ -21,9 +22,8 @@ use Rattle.steps.proofs.Listed.{listed-length, usable-listed}
 use Rattle.beam_row.specs.Path.{Path, Way, wayRemaining, wayCost, wayLevels, waysOf, ways}
 use Rattle.beam_row.specs.Step.{merged}
 use Rattle.beam_row.specs.Held.{noPath, PathsFor, Stands, Takeable, Named}
-use Rattle.beam_row.specs.Entries.{considered, wayAt, taking, BothOf, EntryIs}
+use Rattle.beam_row.specs.Entries.{spotOf, Priced, wayAt, taking, tried, PathIs, Leads, BothOf, EntryIs}
 use Rattle.beam_row.specs.declared.Paths.{Paths}
-use Rattle.beam_row.specs.declared.entry.Best.{Best}
 use Rattle.beam_row.specs.declared.entry.Entry.{Entry}
 use Rattle.beam_row.proofs.Growing.{mem-at}
 use Rattle.beam_row.proofs.Reach.{best-other, best-more, byte-way, both-past, both-merged, ways-next, paths-next}
@@ -32,44 +32,38 @@ use Rattle.beam_row.proofs.Reach.{best-other, best-more, byte-way, both
 abbrev pub read : Spot → ℕ → ℤ
 read s i = toZ w32 (ofZ w32 (getD (s .candidates .levels) i (pos 0)))
 
-module _ {book : Book} {s : Spot} {q : Position} {xs : List Path} {paths : Paths} (S : Stands book s q) (W : PathsFor xs paths) (U : Usable (s .candidates))
-    {j i m : ℕ} (J : j < paths .count) (I : i < s .candidates .count) (M : m ≡ nz (read s i)) where
+-- tail is the cost of path j with candidate i, whose `nz` is m
+module _ {book : Book} {s : Spot} {q : Position} (xs : List Path) (j : ℕ) {i m : ℕ} {tail : Float} (S : Stands book s q) (U : Usable (s .candidates))
+    (J : j < length xs) (I : i < s .candidates .count) (M : m ≡ nz (read s i)) (C : tail ≡ getD xs j noPath .cost m) where
   level-is : read s i ≡ getD (q .candidates) i (pos 0)
   level-is = usable-listed U i I ∙ ap (λ (l : List ℤ). getD l i (pos 0)) (sym (S .candidates-are))
-
-  here : j < length xs
-  here = rw (W .count-is) J
-
-  few : m ≤ 1
-  few = rw M (nz-le (read s i))
 
   nz-is : m ≡ nz (getD (q .candidates) i (pos 0))
   nz-is = M ∙ ap nz level-is
 
-  price-is : {x : Float} {context : ℕ} (n p : ℕ) → p ≤ 1 → context ≡ contextAt (s .place) n → x ≡ localIn book (s .place) context p (read s i) → x ≡ q .price n p (getD (q .candidates) i (pos 0))
+  price-is : (context n p : ℕ) → p ≤ 1 → context ≡ contextAt (s .place) n → localIn book (s .place) context p (read s i) ≡ q .price n p (getD (q .candidates) i (pos 0))
   unfolding localAt
-  price-is {x} {context} n p h e v =
+  price-is context n p h e =
       let mem : List·Memᴰ (read s i) (listed (s .candidates)) = rw (usable-listed U i I) (mem-at (listed (s .candidates)) i (pos 0) (rw (listed-length U) I)) in
-      v ∙ ap (λ (k : ℕ). localIn book (s .place) k p (read s i)) e ∙ sym (S .price-is n p (read s i) h mem) ∙ ap (λ (c : ℤ). q .price n p c) level-is
+      ap (λ (k : ℕ). localIn book (s .place) k p (read s i)) e ∙ sym (S .price-is n p (read s i) h mem) ∙ ap (λ (c : ℤ). q .price n p c) level-is
 
-  pub remaining-is : getD (paths .remaining) j 0 + m ≡ wayRemaining (wayAt q xs j i)
+  remaining-is : getD xs j noPath .remaining + m ≡ wayRemaining (wayAt q xs j i)
   unfolding wayRemaining
-  remaining-is = rw (W .remaining-is j here, nz-is)
+  remaining-is = rw nz-is
 
-  pub cost-is : {x : Float} {context : ℕ} (p : ℕ) → p ≤ 1 → context ≡ contextAt (s .place) (getD (paths .remaining) j 0 + m) → x ≡ localIn book (s .place) context p (read s i)
-      → add binary32 x (getD (paths .costs) (2 * j + m) nan) ≡ wayCost q p (wayAt q xs j i)
+  cost-is : (context n p : ℕ) → p ≤ 1 → context ≡ contextAt (s .place) n → getD xs j noPath .remaining + m ≡ n
+      → add binary32 (localIn book (s .place) context p (read s i)) tail ≡ wayCost q p (wayAt q xs j i)
   unfolding wayCost
-  cost-is {x} p h e v =
-      ap (λ (y : Float). add binary32 y (getD (paths .costs) (2 * j + m) nan)) (price-is (getD (paths .remaining) j 0 + m) p h e v)
-      ∙ ap (λ (y : Float). add binary32 (q .price (getD (paths .remaining) j 0 + m) p (getD (q .candidates) i (pos 0))) y) (W .cost-is j m here few)
-      ∙ ap (λ (k : ℕ). add binary32 (q .price k p (getD (q .candidates) i (pos 0))) (getD xs j noPath .cost m)) remaining-is
-      ∙ ap (λ (k : ℕ). add binary32 (q .price (wayRemaining (wayAt q xs j i)) p (getD (q .candidates) i (pos 0))) (getD xs j noPath .cost k)) nz-is
+  cost-is context n p h e r =
+      ap (λ (y : Float). add binary32 y tail) (price-is context n p h e)
+      ∙ ap (λ (y : Float). add binary32 (q .price n p (getD (q .candidates) i (pos 0))) y) (C ∙ ap (getD xs j noPath .cost) nz-is)
+      ∙ ap (λ (k : ℕ). add binary32 (q .price k p (getD (q .candidates) i (pos 0))) (getD xs j noPath .cost (nz (getD (q .candidates) i (pos 0))))) (sym r ∙ remaining-is)
 
   below : i < 16
   below = omega (arith, U .few, I)
 
   path-of : (16 * j + i) / 16 < length xs
-  path-of = let b = below in let h = here in omega (arith, b, h)
+  path-of = let b = below in omega (arith, b, J)
 
   level-of : (16 * j + i) % 16 < length (q .candidates)
   level-of =
@@ -78,22 +72,19 @@ module _ {book : Book} {s : Spot} {q : Position} {xs : List Path} {paths : Paths
       rw l (omega (arith, b, I))
 
   -- a way that leads elsewhere
-  pub way-other : {ws : List Way} {e : Entry} → (getD (paths .remaining) j 0 + m ≡ e .remaining → ⊥) → BothOf q xs ws e → BothOf q xs (ws ++ (wayAt q xs j i ∷ [])) e
+  way-other : {ws : List Way} {e : Entry} → (getD xs j noPath .remaining + m ≡ e .remaining → ⊥) → BothOf q xs ws e → BothOf q xs (ws ++ (wayAt q xs j i ∷ [])) e
   way-other {ws} {e} other w =
       let no : wayRemaining (wayAt q xs j i) ≡ e .remaining → ⊥ = λ h. other (remaining-is ∙ h) in
       record { first = best-other (wayAt q xs j i) no (w .first); second = best-other (wayAt q xs j i) no (w .second) }
 
   -- one that leads here
-  pub way-more : {ws : List Way} {e : Entry} {context : ℕ} {x y : Float} {a b : Best} → getD (paths .remaining) j 0 + m ≡ e .remaining → context ≡ contextAt (s .place) (e .remaining)
-      → x ≡ localIn book (s .place) context 0 (read s i) → y ≡ localIn book (s .place) context 1 (read s i)
-      → a ≡ considered (e .first) (add binary32 x (getD (paths .costs) (2 * j + m) nan)) (16 * j + i) → b ≡ considered (e .second) (add binary32 y (getD (paths .costs) (2 * j + m) nan)) (16 * j + i)
-      → BothOf q xs ws e → BothOf q xs (ws ++ (wayAt q xs j i ∷ [])) (record { remaining = e .remaining; first = a; second = b })
-  way-more {ws} {e} {context} {x} {y} {a} {b} r k v u A B w =
-      let k' = k ∙ ap (contextAt (s .place)) (sym r) in
+  way-more : {ws : List Way} {e : Entry} {context : ℕ} → getD xs j noPath .remaining + m ≡ e .remaining → context ≡ contextAt (s .place) (e .remaining)
+      → BothOf q xs ws e → BothOf q xs (ws ++ (wayAt q xs j i ∷ [])) (tried book (s .place) context (read s i) tail (16 * j + i) e)
+  way-more {ws} {e} {context} r k w =
       let reaches : wayRemaining (wayAt q xs j i) ≡ e .remaining = sym remaining-is ∙ r in
       record {
-        first = rw A (best-more (wayAt q xs j i) (add binary32 x (getD (paths .costs) (2 * j + m) nan)) (16 * j + i) reaches (cost-is 0 (omega arith) k' v) (byte-way q xs j i below) path-of level-of (w .first));
-        second = rw B (best-more (wayAt q xs j i) (add binary32 y (getD (paths .costs) (2 * j + m) nan)) (16 * j + i) reaches (cost-is 1 (omega arith) k' u) (byte-way q xs j i below) path-of level-of (w .second));
+        first = best-more (wayAt q xs j i) _ (16 * j + i) reaches (cost-is context (e .remaining) 0 (omega arith) k r) (byte-way q xs j i below) path-of level-of (w .first);
+        second = best-more (wayAt q xs j i) _ (16 * j + i) reaches (cost-is context (e .remaining) 1 (omega arith) k r) (byte-way q xs j i below) path-of level-of (w .second);
       }
 
   named : (p : ℕ) → Named q xs p (16 * j + i) (taking q (getD (q .candidates) i (pos 0)) (getD xs j noPath))
@@ -102,22 +93,50 @@ module _ {book : Book} {s : Spot} {q : Position} {xs : List Path} {paths : Paths
       record { path = path-of; level = level-of; levels-are = ap wayLevels w; cost-is = ap (wayCost q p) w; remaining-is = ap wayRemaining w }
 
   -- path j with the sole candidate
-  pub path-extended : {context choice : ℕ} {x y : Float} → context ≡ contextAt (s .place) (getD (paths .remaining) j 0 + m)
+  pub path-extended : {context choice n : ℕ} {x y : Float} → getD xs j noPath .remaining + m ≡ n → context ≡ contextAt (s .place) n
       → x ≡ localIn book (s .place) context 0 (read s i) → y ≡ localIn book (s .place) context 1 (read s i) → choice ≡ 16 * j + i
       → EntryIs q xs (taking q (getD (q .candidates) i (pos 0)) (getD xs j noPath))
-      (record {
-        remaining = getD (paths .remaining) j 0 + m;
-        first = record { cost = add binary32 x (getD (paths .costs) (2 * j + m) nan); choice = choice };
-        second = record { cost = add binary32 y (getD (paths .costs) (2 * j + m) nan); choice = choice };
-      })
-  path-extended k v u c =
+      (record { remaining = n; first = record { cost = add binary32 x tail; choice = choice }; second = record { cost = add binary32 y tail; choice = choice } })
+  path-extended {context} {choice} {n} r k v u c =
       record {
-        remaining-is = remaining-is;
-        first-is = cost-is 0 (omega arith) k v;
-        second-is = cost-is 1 (omega arith) k u;
+        remaining-is = sym r ∙ remaining-is;
+        first-is = rw v (cost-is context n 0 (omega arith) k r);
+        second-is = rw u (cost-is context n 1 (omega arith) k r);
         first-by = λ t. rw c (named 0);
         second-by = λ t. rw c (named 1);
       }
+
+-- candidate i more, where the candidates whose `nz` is z lead path j to the entry's count
+pub record OneMore (book : Book) (s : Spot) (j z i : ℕ) (tail : Float) (e f : Entry) : Type 0 where
+  pub same : f .remaining ≡ e .remaining
+  pub more : (q : Position) (xs : List Path) (ws : List Way) → Stands book s q → Leads xs j z tail (e .remaining) → BothOf q xs ws e → BothOf q xs (ws ++ (wayAt q xs j i ∷ [])) f
+
+module _ {book : Book} {s : Spot} {j z i m : ℕ} {tail : Float} {e f : Entry} (U : Usable (s .candidates)) (I : i < s .candidates .count) (M : m ≡ nz (read s i)) where
+  pub more-tried : {context : ℕ} → m ≡ z → context ≡ contextAt (s .place) (e .remaining) → f ≡ tried book (s .place) context (read s i) tail (16 * j + i) e → OneMore book s j z i tail e f
+  more-tried h k t =
+      record {
+        same = ap (λ (g : Entry). g .remaining) t;
+        more = λ q xs ws S L w. rw t (way-more xs j S U (L .here) I M (rw h (L .tail-is)) (rw h (L .remaining-is)) k w);
+      }
+
+  pub more-other : (m ≡ z → ⊥) → f ≡ e → OneMore book s j z i tail e f
+  more-other h t =
+      record {
+        same = ap (λ (g : Entry). g .remaining) t;
+        more = λ q xs ws S L w. rw t (way-other xs j S U (L .here) I M refl (λ r. h (omega (arith, r, L .remaining-is))) w);
+      }
+
+-- ---- the level that is there plays no part
+pub stands-of : {book : Book} {s : Spot} {q : Position} → Stands book s q → Stands book (spotOf (s .place) (s .candidates .count) (s .candidates .levels)) q
+stands-of S = record { candidates-are = S .candidates-are; price-is = S .price-is }
+
+pub takeable-of : {book : Book} {s : Spot} {paths : Paths} → Takeable book s paths → Takeable book (spotOf (s .place) (s .candidates .count) (s .candidates .levels)) paths
+takeable-of K =
+    record { priced = K .priced; usable = K .usable; covers = K .covers; coded = K .coded; offset = K .offset; few = K .few; three = K .three; six = K .six; left = K .left }
+
+pub priced-of : {book : Book} {s : Spot} {paths : Paths} {distortion : List Float} → Takeable book s paths → length distortion ≡ 5 → Each (distortionAt (s .place)) (listed (s .candidates)) distortion
+    → Priced book (s .place) (s .candidates .count) (s .candidates .levels) distortion
+priced-of K five each = record { priced = K .priced; usable = K .usable; five = five; each = each }
 
 -- ---- what the code needs
 module _ {book : Book} {s : Spot} {paths : Paths} (K : Takeable book s paths) {j : ℕ} (J : j < paths .count) where
@@ -141,14 +160,37 @@ distortion-is s {distortion} {i} U D I = D .at i (rw (listed-length U) I) ∙ ap
 pub candidates-length : {book : Book} {s : Spot} {q : Position} → Stands book s q → Usable (s .candidates) → length (q .candidates) ≡ s .candidates .count
 candidates-length S U = ap length (S .candidates-are) ∙ listed-length U
 
-module _ {q : Position} {xs : List Path} {paths : Paths} {e : Entry} (W : PathsFor xs paths) where
-  -- path j leads elsewhere
-  pub path-past : {ws : List Way} {j : ℕ} → j < paths .count → (getD (paths .remaining) j 0 ≡ e .remaining → ⊥) → (suc (getD (paths .remaining) j 0) ≡ e .remaining → ⊥)
-      → BothOf q xs ws e → BothOf q xs (ws ++ waysOf (getD xs j noPath) (q .candidates)) e
-  path-past {ws} {j} J own next w =
-      let same = W .remaining-is j (rw (W .count-is) J) in
-      both-past (getD xs j noPath) (λ h. own (same ∙ h)) (λ h. next (ap suc same ∙ h)) w
+module _ {xs : List Path} {j n : ℕ} {first second : Float} (P : PathIs xs j n first second) where
+  pub leads-zero : {r : ℕ} → n ≡ r → Leads xs j 0 first r
+  leads-zero e = record { here = P .here; remaining-is = add-zero _ ∙ P .remaining-is ∙ e; tail-is = P .first-is }
 
+  pub leads-one : {r : ℕ} → n + 1 ≡ r → Leads xs j 1 second r
+  leads-one e = record { here = P .here; remaining-is = ap (λ (k : ℕ). k + 1) (P .remaining-is) ∙ e; tail-is = P .second-is }
+
+  -- path j leads elsewhere
+  pub path-past : {q : Position} {ws : List Way} {e : Entry} → (n ≡ e .remaining → ⊥) → (n + 1 ≡ e .remaining → ⊥) → BothOf q xs ws e → BothOf q xs (ws ++ waysOf (getD xs j noPath) (q .candidates)) e
+  path-past own next w = both-past (getD xs j noPath) (λ h. own (sym (P .remaining-is) ∙ h)) (λ h. next (omega (arith, h, P .remaining-is))) w
+
+module _ {xs : List Path} {paths : Paths} (W : PathsFor xs paths) {j : ℕ} (J : j < paths .count) where
+  pub path-here : j < length xs
+  path-here = rw (W .count-is) J
+
+  pub path-is : PathIs xs j (getD (paths .remaining) j 0) (getD (paths .costs) (2 * j) nan) (getD (paths .costs) (2 * j + 1) nan)
+  path-is =
+      record {
+        here = path-here;
+        remaining-is = sym (W .remaining-is j path-here);
+        first-is = ap (λ (k : ℕ). getD (paths .costs) k nan) (sym (add-zero (2 * j))) ∙ W .cost-is j 0 path-here (omega arith);
+        second-is = W .cost-is j 1 path-here (omega arith);
+      }
+
+  pub path-count : (m : ℕ) → getD xs j noPath .remaining + m ≡ getD (paths .remaining) j 0 + m
+  path-count m = ap (λ (k : ℕ). k + m) (sym (W .remaining-is j path-here))
+
+  pub path-tail : {m : ℕ} (q : ℤ) → m ≡ nz q → getD (paths .costs) (2 * j + m) nan ≡ getD xs j noPath .cost m
+  path-tail {m} q e = W .cost-is j m path-here (rw e (nz-le q))
+
+module _ {q : Position} {xs : List Path} {paths : Paths} {e : Entry} (W : PathsFor xs paths) where
   pub paths-more : {j : ℕ} → j < paths .count → BothOf q xs (ways (take j xs) (q .candidates) ++ waysOf (getD xs j noPath) (q .candidates)) e → BothOf q xs (ways (take (j + 1) xs) (q .candidates)) e
   paths-more {j} J w = subst (λ (ws : List Way). BothOf q xs ws e) (paths-next xs (q .candidates) j (rw (W .count-is) J)) w
 

@@ -1,18 +1,25 @@
 -- What the code holds while a position is taken: the counts named, one path with its choices, and the paths kept so far.
-use Prim.Native.Nat.{ℕ, _/_, _%_, _≤_, _<_}
+use Prim.Native.Nat.{ℕ, _+_, _/_, _%_, _≤_, _<_}
 use mathlib.Core.Path.{_≡_}
 use mathlib.Core.Bool.{false, cond}
 use mathlib.Core.List.{List}
 use lib.IntN.{ℤ, pos}
 use lib.ListN.{length, getD, take}
 use lib.Dec.{T}
-use lib.Ieee.{Float, inf, lt}
+use lib.Ieee.{Float, inf, lt, add, binary32}
 use lib.Ieee.Scale.{finite}
 use Rattle.least_cost.specs.Position.{Position}
 use Rattle.least_cost.specs.Search.{least, holder}
+use Rattle.prices.specs.Book.{Book}
+use Rattle.prices.specs.Checks.{bookRefusal}
+use Rattle.steps.specs.Place.{distortionAt, localIn}
+use Rattle.steps.specs.Plan.{Usable, Each}
+use Rattle.steps.specs.declared.Place.{Place}
+use Rattle.steps.specs.declared.reading.Spot.{Spot}
 use Rattle.beam_row.specs.Path.{Path, Way, wayRemaining, wayCost, wayLevels, noWay}
 use Rattle.beam_row.specs.Step.{reaching}
 use Rattle.beam_row.specs.Held.{noPath, wayOf, Named}
+use Rattle.beam_row.specs.declared.Paths.{Paths}
 use Rattle.beam_row.specs.declared.counts.Counts.{Counts}
 use Rattle.beam_row.specs.declared.entry.Best.{Best}
 use Rattle.beam_row.specs.declared.entry.Entry.{Entry}
@@ -25,6 +32,42 @@ named c = take (c .length) (c .counts)
 -- a cost that is below the least so far takes its place
 unfoldable pub considered : Best → Float → ℕ → Best
 considered b x choice = cond (lt x (b .cost)) (record { cost = x; choice = choice }) b
+
+-- a place and its candidates; the level that is there plays no part
+abbrev pub spotOf : Place → ℕ → List ℤ → Spot
+spotOf x count levels = record { place = x; candidates = record { count = count; levels = levels }; level = pos 0 }
+
+abbrev pub gathered : ℕ → List ℕ → List Float → Paths
+gathered count remaining costs = record { count = count; remaining = remaining; costs = costs }
+
+-- what prices the candidates: a book that passed, levels that have a bias, and the distortion of each
+pub record Priced (book : Book) (x : Place) (count : ℕ) (levels : List ℤ) (distortion : List Float) : Type 0 where
+  pub priced : bookRefusal book ≡ 0
+  pub usable : Usable (record { count = count; levels = levels })
+  pub five : length distortion ≡ 5
+  pub each : Each (distortionAt x) (take count levels) distortion
+
+-- path j has this count, and these costs for `prev` 0 and 1
+pub record PathIs (xs : List Path) (j remaining : ℕ) (first second : Float) : Type 0 where
+  pub here : j < length xs
+  pub remaining-is : getD xs j noPath .remaining ≡ remaining
+  pub first-is : first ≡ getD xs j noPath .cost 0
+  pub second-is : second ≡ getD xs j noPath .cost 1
+
+-- path j leads to count n where the level's `nz` is z, and its cost is then `tail`
+pub record Leads (xs : List Path) (j z : ℕ) (tail : Float) (n : ℕ) : Type 0 where
+  pub here : j < length xs
+  pub remaining-is : getD xs j noPath .remaining + z ≡ n
+  pub tail-is : tail ≡ getD xs j noPath .cost z
+
+-- a level in a context, before a path that costs `tail`
+abbrev pub tried : Book → Place → ℕ → ℤ → Float → ℕ → Entry → Entry
+tried book x context q tail choice e =
+    record {
+      remaining = e .remaining;
+      first = considered (e .first) (add binary32 (localIn book x context 0 q) tail) choice;
+      second = considered (e .second) (add binary32 (localIn book x context 1 q) tail) choice;
+    }
 
 -- path j with candidate i
 abbrev pub wayAt : Position → List Path → ℕ → ℕ → Way

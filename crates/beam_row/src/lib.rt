@@ -88,6 +88,9 @@ fn merge(
     let candidates = spot.candidates;
     let distortion = steps::reading::distortions(place, candidates);
     let counts = counts::counts_named(paths);
+    let levels = candidates.levels;
+    let remaining = paths.remaining;
+    let costs = paths.costs;
     let mut kept = Kept::none();
     let mut d = 0;
     while d < counts.length {
@@ -97,9 +100,13 @@ fn merge(
             configs,
             symbols,
             ready,
-            spot,
-            distortion,
-            paths,
+            place,
+            &levels,
+            &distortion,
+            candidates.count,
+            paths.count,
+            &remaining,
+            &costs,
             counts.counts[d],
         );
         kept = kept.keep(entry, counts.length);

@@ -2,52 +2,44 @@
 use crate::Paths;
 use crate::entry::Best;
 use crate::entry::Entry;
+use steps::Place;
 use steps::reading::Spot;
 ghost use mathlib.Core.Path.{_≡_};
-ghost use mathlib.Core.Bool.{false};
-ghost use mathlib.Core.List.{List, [], _∷_, _++_};
-ghost use Prim.Native.Nat.{suc, _+_, _*_, _<_, _≤_};
+ghost use mathlib.Core.List.{List, _++_};
+ghost use Prim.Native.Nat.{_+_, _*_, _<_, _≤_};
 ghost use lib.IntN.{pos};
+ghost use lib.Dec.{T};
 ghost use lib.ListN.{getD};
+ghost use Rattle.bias.specs.Level.{isLevel};
 ghost use Rattle.least_cost.specs.Position.{Position};
 ghost use Rattle.prices.specs.Book.{bookOf};
+ghost use Rattle.prices.specs.Checks.{bookRefusal};
 ghost use Rattle.steps.specs.Place.{distortionAt, contextAt};
-ghost use Rattle.steps.specs.Plan.{listed, Each};
 ghost use Rattle.beam_row.specs.Path.{Path, Way, waysOf, ways};
 ghost use Rattle.beam_row.specs.Step.{merged};
 ghost use Rattle.beam_row.specs.Held.{noPath, PathsFor, Stands, Takeable};
-ghost use Rattle.beam_row.specs.Entries.{wayAt, taking, BothOf, EntryIs};
+ghost use Rattle.beam_row.specs.Entries.{spotOf, gathered, Priced, PathIs, Leads, tried, taking, BothOf, EntryIs};
 
-// One candidate more, where it leads to the entry's count. Both values of `prev` are priced together, and each keeps its own best.
+// One candidate more. Both values of `prev` are priced together, and each keeps its own best.
 fn try_way(
     clusters: u32,
     map: &[u8],
     configs: &[u8],
     symbols: &[f32],
     ready: &[f32],
-    spot: Spot,
-    distortion: [f32; 5],
+    place: Place,
     context: usize,
-    paths: Paths,
-    j: usize,
-    i: usize,
+    level: i32,
+    distortion: f32,
+    tail: f32,
+    choice: u8,
     entry: Entry,
 ) -> Entry
-    requires { ⌜ Takeable (bookOf clusters (now map) (now configs) (now symbols) (now ready)) spot paths ⌝ }
-    requires { ⌜ Each (distortionAt (spot .place)) (listed (spot .candidates)) distortion ⌝ }
-    requires { ⌜ (context ≡ contextAt (spot .place) (entry .remaining)) × (context + 1 < 14850) ⌝ }
-    requires { ⌜ (j < paths .count) × (i < spot .candidates .count) ⌝ }
-    ensures { λ r. ⌜ r .remaining ≡ entry .remaining ⌝ }
-    ensures { λ r. ⌜ ((q : Position) (xs : List Path) (ws : List Way) → Stands (bookOf clusters (now (map .entry)) (now (configs .entry)) (now (symbols .entry)) (now (ready .entry))) spot q → PathsFor xs paths
-        → BothOf q xs ws entry → BothOf q xs (ws ++ (wayAt q xs j i ∷ [])) r) ⌝ }
+    requires { ⌜ bookRefusal (bookOf clusters (now map) (now configs) (now symbols) (now ready)) ≡ 0 ⌝ }
+    requires { ⌜ (context + 1 < 14850) × T (isLevel level) ⌝ }
+    requires { ⌜ distortion ≡ distortionAt place level ⌝ }
+    ensures { λ r. ⌜ r ≡ tried (bookOf clusters (now (map .entry)) (now (configs .entry)) (now (symbols .entry)) (now (ready .entry))) place context level tail choice entry ⌝ }
 {
-    let place = spot.place;
-    let candidates = spot.candidates;
-    let level = candidates.levels[i];
-    let nonzero = steps::nonzero(level);
-    if paths.remaining[j] + nonzero != entry.remaining {
-        return entry;
-    }
     let pair = place.local_pair(
         clusters,
         map,
@@ -56,10 +48,8 @@ fn try_way(
         ready,
         context,
         level,
-        distortion[i],
+        distortion,
     );
-    let tail = paths.costs[2 * j + nonzero];
-    let choice = (16 * j + i) as u8;
     let first = entry.first;
     let second = entry.second;
     Entry {
@@ -69,15 +59,53 @@ fn try_way(
     }
 }
 
-// Whether a path leads to count n.
-fn leads(remaining: usize, n: usize) -> bool
-    requires { ⌜ remaining < 65536 ⌝ }
-    ensures { λ r. ⌜ (r ≡ false → ((remaining ≡ n → ⊥) × (suc remaining ≡ n → ⊥))) ⌝ }
+// The candidates of one kind, 0 or nonzero, in front of path j: those that lead it to the entry's count.
+fn try_levels(
+    clusters: u32,
+    map: &[u8],
+    configs: &[u8],
+    symbols: &[f32],
+    ready: &[f32],
+    place: Place,
+    levels: &[i32],
+    distortion: &[f32],
+    count: usize,
+    context: usize,
+    nonzero: usize,
+    tail: f32,
+    j: usize,
+    entry: Entry,
+) -> Entry
+    requires { ⌜ Priced (bookOf clusters (now map) (now configs) (now symbols) (now ready)) place count (now levels) (now distortion) ⌝ }
+    requires { ⌜ (context ≡ contextAt place (entry .remaining)) × (context + 1 < 14850) ⌝ }
+    requires { ⌜ j < 3 ⌝ }
+    ensures { λ r. ⌜ r .remaining ≡ entry .remaining ⌝ }
+    ensures { λ r. ⌜ ((q : Position) (xs : List Path) (ws : List Way) → Stands (bookOf clusters (now (map .entry)) (now (configs .entry)) (now (symbols .entry)) (now (ready .entry))) (spotOf place count (now (levels .entry))) q → Leads xs j nonzero tail (entry .remaining)
+        → BothOf q xs ws entry → BothOf q xs (ws ++ waysOf (getD xs j noPath) (q .candidates)) r) ⌝ }
 {
-    if remaining == n {
-        return true;
+    let mut best = entry;
+    let mut i = 0;
+    while i < count {
+        let level = levels[i];
+        if steps::nonzero(level) == nonzero {
+            best = try_way(
+                clusters,
+                map,
+                configs,
+                symbols,
+                ready,
+                place,
+                context,
+                level,
+                distortion[i],
+                tail,
+                (16 * j + i) as u8,
+                best,
+            );
+        }
+        i += 1;
     }
-    remaining + 1 == n
+    best
 }
 
 // The candidates in front of path j, where it leads to the entry's count.
@@ -87,45 +115,61 @@ fn try_path(
     configs: &[u8],
     symbols: &[f32],
     ready: &[f32],
-    spot: Spot,
-    distortion: [f32; 5],
+    place: Place,
+    levels: &[i32],
+    distortion: &[f32],
+    count: usize,
     context: usize,
-    paths: Paths,
+    remaining: usize,
+    first: f32,
+    second: f32,
     j: usize,
     entry: Entry,
 ) -> Entry
-    requires { ⌜ Takeable (bookOf clusters (now map) (now configs) (now symbols) (now ready)) spot paths ⌝ }
-    requires { ⌜ Each (distortionAt (spot .place)) (listed (spot .candidates)) distortion ⌝ }
-    requires { ⌜ (context ≡ contextAt (spot .place) (entry .remaining)) × (context + 1 < 14850) ⌝ }
-    requires { ⌜ j < paths .count ⌝ }
+    requires { ⌜ Priced (bookOf clusters (now map) (now configs) (now symbols) (now ready)) place count (now levels) (now distortion) ⌝ }
+    requires { ⌜ (context ≡ contextAt place (entry .remaining)) × (context + 1 < 14850) ⌝ }
+    requires { ⌜ (remaining < 65536) × (j < 3) ⌝ }
     ensures { λ r. ⌜ r .remaining ≡ entry .remaining ⌝ }
-    ensures { λ r. ⌜ ((q : Position) (xs : List Path) (ws : List Way) → Stands (bookOf clusters (now (map .entry)) (now (configs .entry)) (now (symbols .entry)) (now (ready .entry))) spot q → PathsFor xs paths
+    ensures { λ r. ⌜ ((q : Position) (xs : List Path) (ws : List Way) → Stands (bookOf clusters (now (map .entry)) (now (configs .entry)) (now (symbols .entry)) (now (ready .entry))) (spotOf place count (now (levels .entry))) q → PathIs xs j remaining first second
         → BothOf q xs ws entry → BothOf q xs (ws ++ waysOf (getD xs j noPath) (q .candidates)) r) ⌝ }
 {
-    if !leads(paths.remaining[j], entry.remaining) {
-        return entry;
-    }
-    let candidates = spot.candidates;
-    let mut best = entry;
-    let mut i = 0;
-    while i < candidates.count {
-        best = try_way(
+    if remaining == entry.remaining {
+        return try_levels(
             clusters,
             map,
             configs,
             symbols,
             ready,
-            spot,
+            place,
+            levels,
             distortion,
+            count,
             context,
-            paths,
+            0,
+            first,
             j,
-            i,
-            best,
+            entry,
         );
-        i += 1;
     }
-    best
+    if remaining + 1 == entry.remaining {
+        return try_levels(
+            clusters,
+            map,
+            configs,
+            symbols,
+            ready,
+            place,
+            levels,
+            distortion,
+            count,
+            context,
+            1,
+            second,
+            j,
+            entry,
+        );
+    }
+    entry
 }
 
 // The path of count n: for either `prev` the first least of the ways that reach it.
@@ -135,18 +179,21 @@ pub(crate) fn merge_count(
     configs: &[u8],
     symbols: &[f32],
     ready: &[f32],
-    spot: Spot,
-    distortion: [f32; 5],
-    paths: Paths,
+    place: Place,
+    levels: &[i32],
+    distortion: &[f32],
+    count: usize,
+    paths: usize,
+    remaining: &[usize],
+    costs: &[f32],
     n: usize,
 ) -> Entry
-    requires { ⌜ Takeable (bookOf clusters (now map) (now configs) (now symbols) (now ready)) spot paths ⌝ }
-    requires { ⌜ Each (distortionAt (spot .place)) (listed (spot .candidates)) distortion ⌝ }
-    requires { ⌜ n + spot .place .k ≤ 64 * spot .place .covered ⌝ }
-    ensures { λ r. ⌜ ((q : Position) (xs : List Path) → Stands (bookOf clusters (now (map .entry)) (now (configs .entry)) (now (symbols .entry)) (now (ready .entry))) spot q → PathsFor xs paths
+    requires { ⌜ Takeable (bookOf clusters (now map) (now configs) (now symbols) (now ready)) (spotOf place count (now levels)) (gathered paths (now remaining) (now costs)) ⌝ }
+    requires { ⌜ Priced (bookOf clusters (now map) (now configs) (now symbols) (now ready)) place count (now levels) (now distortion) ⌝ }
+    requires { ⌜ n + place .k ≤ 64 * place .covered ⌝ }
+    ensures { λ r. ⌜ ((q : Position) (xs : List Path) → Stands (bookOf clusters (now (map .entry)) (now (configs .entry)) (now (symbols .entry)) (now (ready .entry))) (spotOf place count (now (levels .entry))) q → PathsFor xs (gathered paths (now (remaining .entry)) (now (costs .entry)))
         → EntryIs q xs (merged q (ways xs (q .candidates)) n) r) ⌝ }
 {
-    let place = spot.place;
     let context = place.context(n);
     let none = Best {
         cost: costs::infinity(),
@@ -158,17 +205,21 @@ pub(crate) fn merge_count(
         second: none,
     };
     let mut j = 0;
-    while j < paths.count {
+    while j < paths {
         entry = try_path(
             clusters,
             map,
             configs,
             symbols,
             ready,
-            spot,
+            place,
+            levels,
             distortion,
+            count,
             context,
-            paths,
+            remaining[j],
+            costs[2 * j],
+            costs[2 * j + 1],
             j,
             entry,
         );

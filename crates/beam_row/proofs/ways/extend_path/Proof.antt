@@ -1,4 +1,4 @@
-use Rattle.beam_row.proofs.Trying.{path-extended, sum-fits, sum-coded, pair-below}
+use Rattle.beam_row.proofs.Trying.{path-extended, path-here, path-tail, path-count, sum-fits, sum-coded, pair-below}
 use mathlib.Core.Path.{sym, ap, _∙_}
 use native.Mathlib.Omega.{arith}
 use Prim.Native.Nat.{_<_}
@@ -57,7 +57,9 @@ returns c =
     let pre = c .before .before .before .before .before .before .before .before .before .before .before .before .before .before .pre in
     let only : 0 < c .before .before .before .before .before .before .before .before .before .before .before .before .before .before .args .spot .candidates .count = omega (arith, pre .1 .0 .0) in
     let pair = c .before .before .before .local-pair .ensures in
-    λ q xs S W. path-extended S W (pre .0 .usable) (pre .1 .1) only (c .before .before .before .before .before .before .nonzero .ensures) (c .before .before .before .before .context .ensures .0) (pair .0) (pair .1) (omega arith)
+    let nonzero = c .before .before .before .before .before .before .nonzero .ensures in
+    λ q xs S W.
+    path-extended xs _ S (pre .0 .usable) (path-here W (pre .1 .1)) only nonzero (path-tail W (pre .1 .1) _ nonzero) (path-count W (pre .1 .1) _) (c .before .before .before .before .context .ensures .0) (pair .0) (pair .1) (omega arith)
 
 pub extend-path-spec : {M : Type 1} → statement M
 extend-path-spec =
