@@ -178,8 +178,9 @@ fn more(count: usize) -> usize
 fn goes_before(entry: Entry, other: Entry, count: usize, at: usize) -> bool
     ensures { λ r. ⌜ ((q : Position) (xs : List Path) (x y : Path) → EntryIs q xs x entry → (at < count → EntryIs q xs y other) → r ≡ leb count at || lt (key x) (key y)) ⌝ }
 {
+    let dearer = key(entry) < key(other);
     if count <= at {
         return true;
     }
-    key(entry) < key(other)
+    dearer
 }

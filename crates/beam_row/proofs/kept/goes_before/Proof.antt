@@ -1,14 +1,7 @@
 use borrow.Author.Tests.{le-leb, lt-leb}
-use native.Mathlib.Omega.{arith}
-use Prim.Native.Nat.{_≤_, _<_}
 use borrow.Author.Needs.{needs}
 use Rattle.beam_row.proofs.kept.goes_before.Statement.{statement}
 use Rattle.beam_row.proofs.kept.goes_before.Tie as tie
-
-returns : tie.Need-returns
-returns c =
-    let none : c .before .args .count ≤ c .before .args .at = omega (arith, c .if1 .taken) in
-    λ q xs x y X Y. rw (le-leb _ _ none)
 
 key-requires : tie.Need-key-requires
 key-requires c κs = search needs
@@ -16,11 +9,11 @@ key-requires c κs = search needs
 key-requires-2 : tie.Need-key-requires-2
 key-requires-2 c κs = search needs
 
+returns : tie.Need-returns
+returns c = λ q xs x y X Y. rw (le-leb _ _ (c .if1 .taken))
+
 returns-2 : tie.Need-returns-2
-returns-2 c =
-    let start = c .before .before .before .args in
-    let there : start .at < start .count = omega (arith, c .before .before .if1 .left) in
-    λ q xs x y X Y. rw (lt-leb _ _ there, c .before .key .ensures q xs x X, c .key2 .ensures q xs y (Y there))
+returns-2 c = λ q xs x y X Y. rw (lt-leb _ _ (c .if1 .left), c .before .before .key .ensures q xs x X, c .before .key2 .ensures q xs y (Y (c .if1 .left)))
 
 pub goes-before-spec : {M : Type 1} → statement M
-goes-before-spec = tie.close (tie.spec returns key-requires key-requires-2 returns-2)
+goes-before-spec = tie.close (tie.spec key-requires key-requires-2 returns returns-2)
