@@ -22,7 +22,7 @@ use Rattle.steps.proofs.Listed.{listed-length, usable-listed}
 use Rattle.beam_row.specs.Path.{Path, Way, wayRemaining, wayCost, wayLevels, waysOf, ways}
 use Rattle.beam_row.specs.Step.{merged}
 use Rattle.beam_row.specs.Held.{noPath, PathsFor, Stands, Takeable, Named}
-use Rattle.beam_row.specs.Entries.{spotOf, Priced, wayAt, taking, tried, PathIs, Leads, BothOf, EntryIs}
+use Rattle.beam_row.specs.Entries.{spotOf, Priced, wayAt, taking, tried, alone, PathIs, Leads, BothOf, EntryIs}
 use Rattle.beam_row.specs.declared.Paths.{Paths}
 use Rattle.beam_row.specs.declared.entry.Entry.{Entry}
 use Rattle.beam_row.proofs.Growing.{mem-at}
@@ -93,18 +93,17 @@ module _ {book : Book} {s : Spot} {q : Position} (xs : List Path) (j : ℕ) {i m
       record { path = path-of; level = level-of; levels-are = ap wayLevels w; cost-is = ap (wayCost q p) w; remaining-is = ap wayRemaining w }
 
   -- path j with the sole candidate
-  pub path-extended : {context choice n : ℕ} {x y : Float} → getD xs j noPath .remaining + m ≡ n → context ≡ contextAt (s .place) n
-      → x ≡ localIn book (s .place) context 0 (read s i) → y ≡ localIn book (s .place) context 1 (read s i) → choice ≡ 16 * j + i
-      → EntryIs q xs (taking q (getD (q .candidates) i (pos 0)) (getD xs j noPath))
-      (record { remaining = n; first = record { cost = add binary32 x tail; choice = choice }; second = record { cost = add binary32 y tail; choice = choice } })
-  path-extended {context} {choice} {n} r k v u c =
-      record {
+  pub path-extended : {n choice : ℕ} {e : Entry} → getD xs j noPath .remaining + m ≡ n → choice ≡ 16 * j + i → e ≡ alone book (s .place) n (read s i) tail choice
+      → EntryIs q xs (taking q (getD (q .candidates) i (pos 0)) (getD xs j noPath)) e
+  path-extended {n} r c t =
+      rw (t, c)
+      (record {
         remaining-is = sym r ∙ remaining-is;
-        first-is = rw v (cost-is context n 0 (omega arith) k r);
-        second-is = rw u (cost-is context n 1 (omega arith) k r);
-        first-by = λ t. rw c (named 0);
-        second-by = λ t. rw c (named 1);
-      }
+        first-is = cost-is (contextAt (s .place) n) n 0 (omega arith) refl r;
+        second-is = cost-is (contextAt (s .place) n) n 1 (omega arith) refl r;
+        first-by = λ t. named 0;
+        second-by = λ t. named 1;
+      })
 
 -- candidate i more, where the candidates whose `nz` is z lead path j to the entry's count
 pub record OneMore (book : Book) (s : Spot) (j z i : ℕ) (tail : Float) (e f : Entry) : Type 0 where

@@ -12,7 +12,7 @@ use Rattle.least_cost.specs.Position.{Position}
 use Rattle.least_cost.specs.Search.{least, holder}
 use Rattle.prices.specs.Book.{Book}
 use Rattle.prices.specs.Checks.{bookRefusal}
-use Rattle.steps.specs.Place.{distortionAt, localIn}
+use Rattle.steps.specs.Place.{distortionAt, contextAt, localIn}
 use Rattle.steps.specs.Plan.{Usable, Each}
 use Rattle.steps.specs.declared.Place.{Place}
 use Rattle.steps.specs.declared.reading.Spot.{Spot}
@@ -37,6 +37,7 @@ considered b x choice = cond (lt x (b .cost)) (record { cost = x; choice = choic
 abbrev pub spotOf : Place → ℕ → List ℤ → Spot
 spotOf x count levels = record { place = x; candidates = record { count = count; levels = levels }; level = pos 0 }
 
+-- the paths from their parts
 abbrev pub gathered : ℕ → List ℕ → List Float → Paths
 gathered count remaining costs = record { count = count; remaining = remaining; costs = costs }
 
@@ -60,13 +61,22 @@ pub record Leads (xs : List Path) (j z : ℕ) (tail : Float) (n : ℕ) : Type 0 
   pub remaining-is : getD xs j noPath .remaining + z ≡ n
   pub tail-is : tail ≡ getD xs j noPath .cost z
 
--- a level in a context, before a path that costs `tail`
+-- a level tried in a context, before a path that costs `tail`: each `prev` keeps its own best
 abbrev pub tried : Book → Place → ℕ → ℤ → Float → ℕ → Entry → Entry
 tried book x context q tail choice e =
     record {
       remaining = e .remaining;
       first = considered (e .first) (add binary32 (localIn book x context 0 q) tail) choice;
       second = considered (e .second) (add binary32 (localIn book x context 1 q) tail) choice;
+    }
+
+-- a sole level where `remaining` nonzero levels stand from here on, before a path that costs `tail`
+abbrev pub alone : Book → Place → ℕ → ℤ → Float → ℕ → Entry
+alone book x remaining q tail choice =
+    record {
+      remaining = remaining;
+      first = record { cost = add binary32 (localIn book x (contextAt x remaining) 0 q) tail; choice = choice };
+      second = record { cost = add binary32 (localIn book x (contextAt x remaining) 1 q) tail; choice = choice };
     }
 
 -- path j with candidate i

@@ -3,7 +3,7 @@ use crate::Paths;
 ghost use mathlib.Core.Path.{_≡_};
 ghost use mathlib.Core.List.{List, []};
 ghost use Prim.Native.Nat.{ℕ, _+_, _<_, _≤_};
-ghost use lib.ListN.{length, getD};
+ghost use lib.ListN.{length, getD, take};
 ghost use Rattle.beam_row.specs.Path.{Path};
 ghost use Rattle.beam_row.specs.Step.{has, naming, countsNamed};
 ghost use Rattle.beam_row.specs.Held.{PathsFor};
@@ -15,35 +15,32 @@ pub struct Counts {
     pub counts: [usize; 6],
 }
 
-impl Counts {
-    fn has(self, n: usize) -> bool
-        requires { ⌜ (self .length ≤ 6) × (length (self .counts) ≡ 6) ⌝ }
-        ensures { λ r. ⌜ r ≡ has n (named self) ⌝ }
-    {
-        let mut i = 0;
-        while i < self.length {
-            if self.counts[i] == n {
-                return true;
-            }
-            i += 1;
+// Whether n is among the first `many`.
+fn has(counts: &[usize], many: usize, n: usize) -> bool
+    requires { ⌜ (many ≤ 6) × (length (now counts) ≡ 6) ⌝ }
+    ensures { λ r. ⌜ r ≡ has n (take many (now (counts .entry))) ⌝ }
+{
+    let mut i = 0;
+    while i < many {
+        if counts[i] == n {
+            return true;
         }
-        false
+        i += 1;
     }
+    false
+}
 
-    fn name(self, n: usize) -> Counts
-        requires { ⌜ (self .length < 6) × (length (self .counts) ≡ 6) ⌝ }
-        ensures { λ r. ⌜ named r ≡ naming (named self) n ⌝ }
-        ensures { λ r. ⌜ (r .length ≤ self .length + 1) × (length (r .counts) ≡ 6) ⌝ }
-    {
-        if self.has(n) {
-            return self;
-        }
-        let length = self.length;
-        let mut counts = self;
-        counts.counts[length] = n;
-        counts.length = length + 1;
-        counts
+// Names n where it is not yet; the result is how many are named.
+fn name(counts: &mut [usize], many: usize, n: usize) -> usize
+    requires { ⌜ (many < 6) × (length (now counts) ≡ 6) ⌝ }
+    ensures { λ r. ⌜ take r (now (counts .exit)) ≡ naming (take many (now (counts .entry))) n ⌝ }
+    ensures { λ r. ⌜ (r ≤ many + 1) × (length (now (counts .exit)) ≡ 6) ⌝ }
+{
+    if has(counts, many, n) {
+        return many;
     }
+    counts[many] = n;
+    many + 1
 }
 
 // Of each path its own count and the next one.
@@ -53,16 +50,17 @@ pub(crate) fn counts_named(paths: Paths) -> Counts
     ensures { λ r. ⌜ (r .length ≤ 6) × (length (r .counts) ≡ 6) ⌝ }
     ensures { λ r. ⌜ ((xs : List Path) → PathsFor xs paths → named r ≡ countsNamed [] xs) ⌝ }
 {
-    let mut counts = Counts {
-        length: 0,
-        counts: [0; 6],
-    };
+    let mut counts = [0usize; 6];
+    let mut many = 0;
     let mut j = 0;
     while j < paths.count {
         let own = paths.remaining[j];
-        let named = counts.name(own);
-        counts = named.name(own + 1);
+        many = name(&mut counts, many, own);
+        many = name(&mut counts, many, own + 1);
         j += 1;
     }
-    counts
+    Counts {
+        length: many,
+        counts,
+    }
 }

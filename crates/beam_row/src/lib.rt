@@ -50,6 +50,7 @@ fn extend(
     let place = spot.place;
     let candidates = spot.candidates;
     let distortion = place.distortion(candidates.levels[0]);
+    let nonzero = steps::nonzero(candidates.levels[0]);
     let mut kept = Kept::none();
     let mut j = 0;
     while j < paths.count {
@@ -59,9 +60,11 @@ fn extend(
             configs,
             symbols,
             ready,
-            spot,
+            place,
+            candidates.levels[0],
             distortion,
-            paths,
+            paths.remaining[j] + nonzero,
+            paths.costs[2 * j + nonzero],
             j,
         ));
         j += 1;

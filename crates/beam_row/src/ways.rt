@@ -1,15 +1,13 @@
 // The ways to take one position more: a path behind the position, and a candidate.
-use crate::Paths;
 use crate::entry::Best;
 use crate::entry::Entry;
 use steps::Place;
-use steps::reading::Spot;
 ghost use mathlib.Core.Path.{_≡_};
 ghost use mathlib.Core.List.{List, _++_};
 ghost use Prim.Native.Nat.{_+_, _*_, _<_, _≤_};
-ghost use lib.IntN.{pos};
 ghost use lib.Dec.{T};
 ghost use lib.ListN.{getD};
+ghost use Rattle.ac_context.specs.Contexts.{Coefficient, Covered};
 ghost use Rattle.bias.specs.Level.{isLevel};
 ghost use Rattle.least_cost.specs.Position.{Position};
 ghost use Rattle.prices.specs.Book.{bookOf};
@@ -18,7 +16,7 @@ ghost use Rattle.steps.specs.Place.{distortionAt, contextAt};
 ghost use Rattle.beam_row.specs.Path.{Path, Way, waysOf, ways};
 ghost use Rattle.beam_row.specs.Step.{merged};
 ghost use Rattle.beam_row.specs.Held.{noPath, PathsFor, Stands, Takeable};
-ghost use Rattle.beam_row.specs.Entries.{spotOf, gathered, Priced, PathIs, Leads, tried, taking, BothOf, EntryIs};
+ghost use Rattle.beam_row.specs.Entries.{spotOf, gathered, Priced, PathIs, Leads, tried, alone, BothOf, EntryIs};
 
 // One candidate more. Both values of `prev` are priced together, and each keeps its own best.
 fn try_way(
@@ -228,29 +226,27 @@ pub(crate) fn merge_count(
     entry
 }
 
-// Path j with the sole candidate.
+// Path j with the sole candidate, which `remaining` counts too.
 pub(crate) fn extend_path(
     clusters: u32,
     map: &[u8],
     configs: &[u8],
     symbols: &[f32],
     ready: &[f32],
-    spot: Spot,
+    place: Place,
+    level: i32,
     distortion: f32,
-    paths: Paths,
+    remaining: usize,
+    tail: f32,
     j: usize,
 ) -> Entry
-    requires { ⌜ Takeable (bookOf clusters (now map) (now configs) (now symbols) (now ready)) spot paths ⌝ }
-    requires { ⌜ (spot .candidates .count ≡ 1) × (distortion ≡ distortionAt (spot .place) (getD (spot .candidates .levels) 0 (pos 0))) ⌝ }
-    requires { ⌜ j < paths .count ⌝ }
-    ensures { λ r. ⌜ ((q : Position) (xs : List Path) → Stands (bookOf clusters (now (map .entry)) (now (configs .entry)) (now (symbols .entry)) (now (ready .entry))) spot q → PathsFor xs paths
-        → EntryIs q xs (taking q (getD (q .candidates) 0 (pos 0)) (getD xs j noPath)) r) ⌝ }
+    requires { ⌜ bookRefusal (bookOf clusters (now map) (now configs) (now symbols) (now ready)) ≡ 0 ⌝ }
+    requires { ⌜ T (isLevel level) × (distortion ≡ distortionAt place level) ⌝ }
+    requires { ⌜ Covered (place .covered) (place .log2) × (place .offset + 457 < 14850) ⌝ }
+    requires { ⌜ (0 < remaining → Coefficient (place .covered) remaining (place .k) 0) ⌝ }
+    requires { ⌜ j < 3 ⌝ }
+    ensures { λ r. ⌜ r ≡ alone (bookOf clusters (now (map .entry)) (now (configs .entry)) (now (symbols .entry)) (now (ready .entry))) place remaining level tail (16 * j) ⌝ }
 {
-    let place = spot.place;
-    let candidates = spot.candidates;
-    let level = candidates.levels[0];
-    let nonzero = steps::nonzero(level);
-    let remaining = paths.remaining[j] + nonzero;
     let context = place.context(remaining);
     let pair = place.local_pair(
         clusters,
@@ -262,7 +258,6 @@ pub(crate) fn extend_path(
         level,
         distortion,
     );
-    let tail = paths.costs[2 * j + nonzero];
     let choice = (16 * j) as u8;
     Entry {
         remaining,

@@ -6,14 +6,14 @@ use native.Mathlib.Omega.{arith}
 use lib.ListN.{length, take}
 use Prim.Native.Nat.{_≤_, _<_, _-_}
 use borrow.Author.Needs.{needs}
-use Rattle.beam_row.proofs.counts.Counts.has.Statement.{statement}
-use Rattle.beam_row.proofs.counts.Counts.has.Tie as tie
+use Rattle.beam_row.proofs.counts.has.Statement.{statement}
+use Rattle.beam_row.proofs.counts.has.Tie as tie
 
 abbrev Inv-loop : tie.InvT-loop
-Inv-loop n self i₀ i = (i ≤ self .length) × (has n (take i (self .counts)) ≡ false)
+Inv-loop counts many n i₀ i = (i ≤ many) × (has n (take i counts) ≡ false)
 
 abbrev μ-loop : tie.MeasureT-loop
-μ-loop n self i₀ i = self .length - i
+μ-loop counts many n i₀ i = many - i
 
 loop-holds : tie.Need-loop-holds Inv-loop μ-loop
 loop-holds c = (search needs, has-none _)
@@ -21,8 +21,8 @@ loop-holds c = (search needs, has-none _)
 mul-if1 : tie.Need-mul-if1 Inv-loop μ-loop
 mul-if1 c = search needs
 
-element-copy-out-if1 : tie.Need-element-copy-out-if1 Inv-loop μ-loop
-element-copy-out-if1 c = search needs
+shared-slice-read-if1 : tie.Need-shared-slice-read-if1 Inv-loop μ-loop
+shared-slice-read-if1 c = search needs
 
 returns : tie.Need-returns Inv-loop μ-loop
 returns c =
@@ -41,12 +41,12 @@ loop-again c =
     let at-loop = c .before .before .before in
     let pre = at-loop .before .pre in
     let here = c .before .before .loop-test .taken in
-    let room : at-loop .loop .i < length (at-loop .before .args .t1 .counts) = omega (arith, here, pre .0, pre .1) in
+    let room : at-loop .loop .i < length (at-loop .before .args .counts .now) = omega (arith, here, pre .0, pre .1) in
     (search needs, missed _ _ _ room (c .if1 .left) (at-loop .loop .inv .1))
 
 returns-2 : tie.Need-returns-2 Inv-loop μ-loop
 returns-2 c =
-    let last : c .before .loop .i ≡ c .before .before .args .t1 .length = omega (arith, c .before .loop .inv .0, c .loop-test .left) in
+    let last : c .before .loop .i ≡ c .before .before .args .many = omega (arith, c .before .loop .inv .0, c .loop-test .left) in
     sym (rw last at (c .before .loop .inv .1))
 
 pub has-spec : {M : Type 1} → statement M
@@ -57,7 +57,7 @@ has-spec =
     μ-loop
     loop-holds
     mul-if1
-    element-copy-out-if1
+    shared-slice-read-if1
     returns
     add-i
     loop-less
