@@ -1,5 +1,5 @@
 -- The levels that a search may pick for one coefficient (document 01, module 6). Definitions only.
-use Prim.Native.Nat.{zero, suc, _-_}
+use Prim.Native.Nat.{ℕ, zero, suc, _-_}
 use mathlib.Core.Bool.{Bool, false, cond, _&&_}
 use mathlib.Core.List.{List, [], _∷_, _++_}
 use lib.Dec.{eqb, leb}
@@ -69,6 +69,10 @@ filler current restore = cond restore current (pos 0)
 -- a list of at most five levels, filled up to five
 unfoldable pub filled : ℤ → List ℤ → Candidates
 filled q xs = record { levels = xs ++ replicate (5 - length xs) q; count = length xs }
+
+-- the candidates that stand in an array, so many of them
+abbrev pub inArray : ℕ → List ℤ → Candidates
+inArray count levels = record { levels = levels; count = count }
 
 -- The levels that the leaf takes: -32,767 to 32,767.
 abbrev pub isCurrent : ℤ → Bool

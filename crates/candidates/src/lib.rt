@@ -5,7 +5,7 @@ ghost use Prim.Native.Nat.{_<_};
 ghost use lib.Dec.{T};
 ghost use lib.IntN.{pos};
 ghost use Rattle.candidates.specs.Nearest.{nearestOf, isIdeal};
-ghost use Rattle.candidates.specs.Candidates.{candidatesOf, filled, filler, isCurrent, keptOf, restoredOf, settled};
+ghost use Rattle.candidates.specs.Candidates.{candidatesOf, filled, filler, inArray, isCurrent, keptOf, restoredOf, settled};
 ghost use Rattle.candidates.specs.Steps.{offer, withZero};
 
 // At most five levels in trial order. Past the count stands 0, or where the level may be restored the current level.
@@ -69,97 +69,80 @@ fn is_settled(ideal: f32, rounded: i32) -> bool
 }
 
 // The current level, one step toward zero, then 0.
-fn kept(current: i32) -> Candidates
+fn kept(current: i32, levels: &mut [i32; 5]) -> usize
     requires { ⌜ T (isCurrent current) ⌝ }
-    ensures { λ r. ⌜ r ≡ filled (pos 0) (keptOf current) ⌝ }
+    ensures { λ r. ⌜ inArray r (now (levels .exit)) ≡ filled (pos 0) (keptOf current) ⌝ }
 {
     if 1 < current {
-        return Candidates {
-            levels: [current, current - 1, 0, 0, 0],
-            count: 3,
-        };
+        *levels = [current, current - 1, 0, 0, 0];
+        return 3;
     }
     if current < -1 {
-        return Candidates {
-            levels: [current, current + 1, 0, 0, 0],
-            count: 3,
-        };
+        *levels = [current, current + 1, 0, 0, 0];
+        return 3;
     }
-    if current == 0 {
-        return Candidates {
-            levels: [0, 0, 0, 0, 0],
-            count: 1,
-        };
-    }
-    Candidates {
-        levels: [current, 0, 0, 0, 0],
-        count: 2,
-    }
+    *levels = [current, 0, 0, 0, 0];
+    if current == 0 { 1 } else { 2 }
 }
 
 // The current level and 0.
-fn with_zero(current: i32) -> Candidates
+fn with_zero(current: i32, levels: &mut [i32; 5]) -> usize
     requires { ⌜ T (isCurrent current) ⌝ }
-    ensures { λ r. ⌜ r ≡ withZero current ⌝ }
+    ensures { λ r. ⌜ inArray r (now (levels .exit)) ≡ withZero current ⌝ }
 {
-    if current == 0 {
-        return Candidates {
-            levels: [current, current, current, current, current],
-            count: 1,
-        };
-    }
-    Candidates {
-        levels: [current, 0, current, current, current],
-        count: 2,
-    }
+    *levels = [current, 0, current, current, current];
+    if current == 0 { 1 } else { 2 }
 }
 
-// One level more, unless it is 0 or the current one.
-fn offered(to: Candidates, current: i32, level: i32) -> Candidates
-    requires { ⌜ to .count < 5 ⌝ }
-    ensures { λ r. ⌜ r ≡ offer to current level ⌝ }
+// One level more behind the first `count`, unless it is 0 or the current one.
+fn offered(levels: &mut [i32; 5], count: usize, current: i32, level: i32) -> usize
+    requires { ⌜ count < 5 ⌝ }
+    ensures { λ r. ⌜ inArray r (now (levels .exit)) ≡ offer (inArray count (now (levels .entry))) current level ⌝ }
 {
     if level == 0 {
-        return to;
+        return count;
     }
     if level == current {
-        return to;
+        return count;
     }
-    let n = to.count;
-    let mut levels = to.levels;
-    levels[n] = level;
-    Candidates {
-        levels,
-        count: n + 1,
-    }
+    levels[count] = level;
+    count + 1
 }
 
 // The current level, 0, the ideal's rounding and its neighbours.
-fn restored(ideal: f32, current: i32) -> Candidates
+fn restored(ideal: f32, current: i32, levels: &mut [i32; 5]) -> usize
     requires { ⌜ T (isIdeal ideal) ⌝ ∗ ⌜ T (isCurrent current) ⌝ }
-    ensures { λ r. ⌜ r ≡ filled current (restoredOf ideal current) ⌝ }
+    ensures { λ r. ⌜ inArray r (now (levels .exit)) ≡ filled current (restoredOf ideal current) ⌝ }
 {
     let r = round_half_away(ideal);
     if is_settled(ideal, r) {
-        return Candidates {
-            levels: [current, current, current, current, current],
-            count: 1,
-        };
+        *levels = [current, current, current, current, current];
+        return 1;
     }
-    let first = with_zero(current);
-    let second = offered(first, current, r);
-    let third = offered(second, current, r - 1);
-    offered(third, current, r + 1)
+    let first = with_zero(current, levels);
+    let second = offered(levels, first, current, r);
+    let third = offered(levels, second, current, r - 1);
+    offered(levels, third, current, r + 1)
 }
 
-// The candidates for one coefficient, the current level first.
+// Lists the candidates for one coefficient, the current level first, and answers how many they are. In a lent array no search copies them.
+pub fn list_candidates(ideal: f32, current: i32, restore: bool, levels: &mut [i32; 5]) -> usize
+    requires { ⌜ T (isIdeal ideal) ⌝ ∗ ⌜ T (isCurrent current) ⌝ }
+    ensures { λ r. ⌜ inArray r (now (levels .exit)) ≡ filled (filler current restore) (candidatesOf ideal current restore) ⌝ }
+{
+    if restore {
+        restored(ideal, current, levels)
+    } else {
+        kept(current, levels)
+    }
+}
+
+// The same, by value.
 pub fn rdoq_candidates(ideal: f32, current: i32, restore: bool) -> Candidates
     requires { ⌜ T (isIdeal ideal) ⌝ ∗ ⌜ T (isCurrent current) ⌝ }
     ensures { λ r. ⌜ r ≡ filled (filler current restore) (candidatesOf ideal current restore) ⌝ }
 {
-    if restore {
-        restored(ideal, current)
-    } else {
-        kept(current)
-    }
+    let mut levels = [0i32; 5];
+    let count = list_candidates(ideal, current, restore, &mut levels);
+    Candidates { levels, count }
 }

@@ -2,39 +2,24 @@
 use mathlib.Core.Path.{sym, ap, _∙_, subst}
 use mathlib.Core.Bool.{Bool}
 use lib.Dec.{T}
-use lib.IntN.{ℤ, pos}
-use Rattle.candidates.specs.Candidates.{isCurrent, filled, filler, candidatesOf, keptOf, restoredOf}
+use lib.IntN.{ℤ}
+use Rattle.candidates.specs.Candidates.{isCurrent, filled, filler, candidatesOf}
 use Rattle.candidates.proofs.Levels.{current-size, in-back, wider}
 use Rattle.candidates.proofs.rdoq_candidates.Statement.{statement}
 use Rattle.candidates.proofs.rdoq_candidates.Tie as tie
 
-restored-requires : tie.Need-restored-requires
-restored-requires c κs =
-    let q = c .before .args .current in
-    (c .before .pre .0, subst (λ (z : ℤ). T (isCurrent z)) (sym (in-back q (wider (current-size q (c .before .pre .1))))) (c .before .pre .1))
-
-kept-requires : tie.Need-kept-requires
-kept-requires c κs =
-    let q = c .before .args .current in
-    subst (λ (z : ℤ). T (isCurrent z)) (sym (in-back q (wider (current-size q (c .before .pre .1))))) (c .before .pre .1)
+list-candidates-requires : tie.Need-list-candidates-requires
+list-candidates-requires c κs =
+    let start = c .before in
+    let q = start .args .current in
+    (start .pre .0, subst (λ (z : ℤ). T (isCurrent z)) (sym (in-back q (wider (current-size q (start .pre .1))))) (start .pre .1))
 
 returns : tie.Need-returns
-unfolding candidatesOf
 returns c =
-    let s = c .before .before in
-    let q = s .args .current in
-    c .restored .ensures
-    ∙ ap (λ (z : ℤ). filled z (restoredOf (s .args .ideal) z)) (in-back q (wider (current-size q (s .pre .1))))
-    ∙ sym (ap (λ (b : Bool). filled (filler q b) (candidatesOf (s .args .ideal) q b)) (c .before .if1 .taken))
-
-returns-2 : tie.Need-returns-2
-unfolding candidatesOf
-returns-2 c =
-    let s = c .before .before in
-    let q = s .args .current in
-    c .kept .ensures
-    ∙ ap (λ (z : ℤ). filled (pos 0) (keptOf z)) (in-back q (wider (current-size q (s .pre .1))))
-    ∙ sym (ap (λ (b : Bool). filled (filler q b) (candidatesOf (s .args .ideal) q b)) (c .before .if1 .left))
+    let start = c .before .before in
+    let q = start .args .current in
+    c .list-candidates .ensures
+    ∙ ap (λ (z : ℤ). filled (filler z (start .args .restore)) (candidatesOf (start .args .ideal) z (start .args .restore))) (in-back q (wider (current-size q (start .pre .1))))
 
 pub rdoq-candidates-spec : {M : Type 1} → statement M
-rdoq-candidates-spec = tie.close (tie.spec restored-requires kept-requires returns returns-2)
+rdoq-candidates-spec = tie.close (tie.spec list-candidates-requires returns)

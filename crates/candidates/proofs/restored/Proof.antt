@@ -44,16 +44,16 @@ tried x q e = rw e
 returns : tie.Need-returns
 unfolding filled
 returns c =
-    let s = c .before .before .before in
-    let q = s .args .current in
-    ap (λ (z : ℤ). record { levels = z ∷ z ∷ z ∷ z ∷ z ∷ []; count = 1 }) (in-back q (wider (current-size q (s .pre .1))))
-    ∙ sym (ap (filled q) (alone (s .args .ideal) q (sym (c .before .is-settled .ensures) ∙ c .if1 .taken)))
+    let start = c .before .before .before .before in
+    let q = start .args .current in
+    ap (λ (z : ℤ). record { levels = z ∷ z ∷ z ∷ z ∷ z ∷ []; count = 1 }) (in-back q (wider (current-size q (start .pre .1))))
+    ∙ sym (ap (filled q) (alone (start .args .ideal) q (sym (c .before .before .is-settled .ensures) ∙ c .before .if1 .taken)))
 
 with-zero-requires : tie.Need-with-zero-requires
 with-zero-requires c κs =
-    let s = c .before .before .before in
-    let q = s .args .current in
-    subst (λ (z : ℤ). T (isCurrent z)) (sym (in-back q (wider (current-size q (s .pre .1))))) (s .pre .1)
+    let start = c .before .before .before .before in
+    let q = start .args .current in
+    subst (λ (z : ℤ). T (isCurrent z)) (sym (in-back q (wider (current-size q (start .pre .1))))) (start .pre .1)
 
 first-room : (t : Candidates) (q : ℤ) → t ≡ withZero q → t .count ≤ 2
 first-room t q e = subst (λ (x : Candidates). x .count ≤ 2) (sym e) (with-zero-room q)
@@ -62,33 +62,33 @@ next-room : (t u : Candidates) (q l : ℤ) → u ≡ offer t q l → u .count �
 next-room t u q l e = subst (λ (x : Candidates). x .count ≤ t .count + 1) (sym e) (offer-room t q l)
 
 offered-requires : tie.Need-offered-requires
-offered-requires c κs = let h = first-room _ _ (c .with-zero .ensures) in omega arith
+offered-requires c κs = let h = first-room _ _ (c .before .with-zero .ensures) in omega arith
 
 sub-offered : tie.Need-sub-offered
 sub-offered c =
-    let s = c .before .before .before .before in
-    let x = s .before .args .ideal in
-    let r = s .round-half-away .result in
-    minus-sfits r (small x r (nearest-in x (s .before .pre .0)) (s .round-half-away .ensures))
+    let rounded = c .before .before .before .before .before .before .before in
+    let x = rounded .before .args .ideal in
+    let r = rounded .round-half-away .result in
+    minus-sfits r (small x r (nearest-in x (rounded .before .pre .0)) (rounded .round-half-away .ensures))
 
 offered-requires-2 : tie.Need-offered-requires-2
 offered-requires-2 c κs =
-    let h = first-room _ _ (c .before .with-zero .ensures) in
-    let k = next-room _ _ _ _ (c .offered .ensures) in
+    let h = first-room _ _ (c .before .before .before .with-zero .ensures) in
+    let k = next-room _ _ _ _ (c .before .offered .ensures) in
     omega arith
 
 add-offered : tie.Need-add-offered
 add-offered c =
-    let s = c .before .before .before .before .before in
-    let x = s .before .args .ideal in
-    let r = s .round-half-away .result in
-    plus-sfits r (small x r (nearest-in x (s .before .pre .0)) (s .round-half-away .ensures))
+    let rounded = c .before .before .before .before .before .before .before .before .before in
+    let x = rounded .before .args .ideal in
+    let r = rounded .round-half-away .result in
+    plus-sfits r (small x r (nearest-in x (rounded .before .pre .0)) (rounded .round-half-away .ensures))
 
 offered-requires-3 : tie.Need-offered-requires-3
 offered-requires-3 c κs =
-    let h = first-room _ _ (c .before .before .with-zero .ensures) in
-    let k = next-room _ _ _ _ (c .before .offered .ensures) in
-    let l = next-room _ _ _ _ (c .offered2 .ensures) in
+    let h = first-room _ _ (c .before .before .before .before .before .with-zero .ensures) in
+    let k = next-room _ _ _ _ (c .before .before .before .offered .ensures) in
+    let l = next-room _ _ _ _ (c .before .offered2 .ensures) in
     omega arith
 
 -- the machine's reading of a level
@@ -107,16 +107,18 @@ steps q r t u v w h k e f g i =
 
 returns-2 : tie.Need-returns-2
 returns-2 c =
-    let t = c .before .before .before .before .before .before in
-    let x = t .before .args .ideal in
-    let q = t .before .args .current in
-    let r = t .round-half-away .result in
-    let e = t .round-half-away .ensures in
-    steps q r _ _ _ _ (current-size q (t .before .pre .1)) (small x r (nearest-in x (t .before .pre .0)) e) (c .before .before .before .with-zero .ensures) (c .before .before .offered .ensures)
-    (c .before .offered2 .ensures) (c .offered3 .ensures)
+    let listed = c .before .before .before .before .before .before in
+    let tested = listed .before .before in
+    let rounded = tested .before .before in
+    let x = rounded .before .args .ideal in
+    let q = rounded .before .args .current in
+    let r = rounded .round-half-away .result in
+    let e = rounded .round-half-away .ensures in
+    steps q r _ _ _ _ (current-size q (rounded .before .pre .1)) (small x r (nearest-in x (rounded .before .pre .0)) e) (listed .with-zero .ensures) (c .before .before .before .before .offered .ensures)
+    (c .before .before .offered2 .ensures) (c .offered3 .ensures)
     ∙ chain q r
     ∙ ap (λ (z : ℤ). filled q (dropRepeats (q ∷ pos 0 ∷ z ∷ predℤ z ∷ sucℤ z ∷ []))) e
-    ∙ sym (ap (filled q) (tried x q (sym (c .before .before .before .before .before .is-settled .ensures) ∙ c .before .before .before .before .if1 .left)))
+    ∙ sym (ap (filled q) (tried x q (sym (tested .before .is-settled .ensures) ∙ tested .if1 .left)))
 
 pub restored-spec : {M : Type 1} → statement M
 restored-spec =

@@ -15,16 +15,20 @@ use Rattle.candidates.proofs.with_zero.Tie as tie
 returns : tie.Need-returns
 unfolding withZero
 returns c =
-    let q = c .before .args .current in
-    let h = wider (leb→le (natAbs q) 32767 (c .before .pre)) in
-    ap (λ (z : ℤ). record { levels = z ∷ z ∷ z ∷ z ∷ z ∷ []; count = 1 }) (in-back q h)
-    ∙ sym (ap (λ (b : Bool). filled q (cond b (q ∷ []) (q ∷ pos 0 ∷ []))) (eq-eqZ q (pos 0) (same-bits q (pos 0) (in-sfits q h) zero-sfits (c .if1 .taken))))
+    let start = c .before .before in
+    let q = start .args .current in
+    let h = wider (leb→le (natAbs q) 32767 (start .pre)) in
+    let none = same-bits q (pos 0) (in-sfits q h) zero-sfits (c .if1 .taken) in
+    ap (λ (z : ℤ). record { levels = z ∷ pos 0 ∷ z ∷ z ∷ z ∷ []; count = 1 }) (in-back q h)
+    ∙ ap (λ (z : ℤ). record { levels = q ∷ z ∷ q ∷ q ∷ q ∷ []; count = 1 }) (sym none)
+    ∙ sym (ap (λ (b : Bool). filled q (cond b (q ∷ []) (q ∷ pos 0 ∷ []))) (eq-eqZ q (pos 0) none))
 
 returns-2 : tie.Need-returns-2
 unfolding withZero
 returns-2 c =
-    let q = c .before .args .current in
-    let h = wider (leb→le (natAbs q) 32767 (c .before .pre)) in
+    let start = c .before .before in
+    let q = start .args .current in
+    let h = wider (leb→le (natAbs q) 32767 (start .pre)) in
     ap (λ (z : ℤ). record { levels = z ∷ pos 0 ∷ z ∷ z ∷ z ∷ []; count = 2 }) (in-back q h)
     ∙ sym (ap (λ (b : Bool). filled q (cond b (q ∷ []) (q ∷ pos 0 ∷ []))) (ne-eqZ q (pos 0) (λ (e : q ≡ pos 0). c .if1 .left (ap (ofZ w32) e))))
 
