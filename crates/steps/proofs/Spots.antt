@@ -52,7 +52,7 @@ filled-listed x q restore c e = ap listed e ∙ whole (candidatesOf x q restore)
 pub offered : (b : Block) (p : Plan) (i : ℕ) (scan : List ℕ) (source inverse : List Float) (levels : List ℤ) (restoring : Bool) (x : Float) (q : ℤ) (c : Candidates)
     → Lists b scan source inverse levels → Planned b p → restoring ≡ ltb i (p .window .restoring)
     → x ≡ idealAt scan source inverse (p .scale) (p .covered + i) → q ≡ levelAt scan levels (p .covered + i) → c ≡ filled (filler q restoring) (candidatesOf x q restoring)
-    → Offered b i (record { ideal = x; candidates = c; level = q })
+    → Offered b i (record { ideal = x; count = c .count; level = q }) (c .levels)
 unfolding ideal inputAt candidatesAt
 offered b p i scan source inverse levels restoring x q c l w r ex eq ec =
     let at : p .covered + i ≡ covered b + i = ap (λ (n : ℕ). n + i) (w .covered-is) in

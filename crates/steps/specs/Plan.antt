@@ -9,16 +9,14 @@ use lib.Ieee.{Float, nan}
 use Rattle.ac_context.specs.Contexts.{Covered, fineNonZeroContext, fineZeroDensityContextsOffset}
 use Rattle.bias.specs.Level.{isLevel}
 use Rattle.block.specs.Block.{Block, covered, contextOf, inputAt, ideal, idealAt, candidatesAt}
-use Rattle.candidates.specs.Candidates.{isCurrent}
+use Rattle.candidates.specs.Candidates.{inArray, isCurrent}
 use Rattle.candidates.specs.declared.Candidates.{Candidates}
 use Rattle.candidates.specs.Nearest.{isIdeal}
 use Rattle.scan.specs.Scan.{levelAt}
 use Rattle.weights.specs.Settings.{channelScale, restoreRate}
 use Rattle.weights.specs.Window.{windowOf, baseLen}
-use Rattle.steps.specs.Place.{placeOf}
 use Rattle.steps.specs.declared.reading.Offer.{Offer}
 use Rattle.steps.specs.declared.reading.Plan.{Plan}
-use Rattle.steps.specs.declared.reading.Spot.{Spot}
 
 -- p is what a block's shape, settings, bias and scale give
 pub record Planned (b : Block) (p : Plan) : Type 0 where
@@ -71,17 +69,11 @@ pub record Usable (c : Candidates) : Type 0 where
 pub record Each (g : ℤ → Float) (levels : List ℤ) (costs : List Float) : Type 0 where
   pub at : (j : ℕ) → j < length levels → getD costs j nan ≡ g (getD levels j (pos 0))
 
--- what window position i of a block offers
-pub record Offered (b : Block) (i : ℕ) (o : Offer) : Type 0 where
+-- what window position i of a block offers, the candidates standing in an array
+pub record Offered (b : Block) (i : ℕ) (o : Offer) (levels : List ℤ) : Type 0 where
   pub ideal-is : o .ideal ≡ ideal b i
-  pub listed-is : listed (o .candidates) ≡ candidatesAt (windowOf (covered b)) b i
+  pub listed-is : listed (inArray (o .count) levels) ≡ candidatesAt (windowOf (covered b)) b i
   pub level-is : o .level ≡ inputAt b (covered b + i)
-
--- what stands at window position i of a block
-pub record Spotted (b : Block) (log2 i : ℕ) (s : Spot) : Type 0 where
-  pub place-is : s .place ≡ placeOf b log2 i
-  pub listed-is : listed (s .candidates) ≡ candidatesAt (windowOf (covered b)) b i
-  pub level-is : s .level ≡ inputAt b (covered b + i)
 
 -- the levels of a whole block can be read through its scan, and from scan position `from` on each is within ±32,767
 pub record Whole (c from : ℕ) (scan : List ℕ) (levels : List ℤ) : Type 0 where

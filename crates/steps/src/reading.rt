@@ -2,7 +2,6 @@
 use crate::Place;
 use bias::DequantBias;
 use block::Shape;
-use candidates::Candidates;
 use weights::Settings;
 use weights::Window;
 ghost use mathlib.Core.Path.{_≡_};
@@ -10,13 +9,14 @@ ghost use mathlib.Core.Bool.{true, cond};
 ghost use lib.Dec.{T, eqb};
 ghost use Rattle.least_cost.specs.Position.{nz};
 ghost use mathlib.Core.List.{[]};
+ghost use lib.ListN.{length};
 ghost use Prim.Native.Nat.{_+_, _*_, _<_, _≤_};
 ghost use Rattle.ac_context.specs.Contexts.{isPowerBelow};
 ghost use Rattle.block.specs.Block.{Block, blockOf, inputAt, ideal as idealOf, covered as coveredBy};
-ghost use Rattle.candidates.specs.Candidates.{isCurrent};
+ghost use Rattle.candidates.specs.Candidates.{inArray, isCurrent};
 ghost use Rattle.scan.specs.Scan.{levelAt};
 ghost use Rattle.steps.specs.Place.{distortionAt, placeOf};
-ghost use Rattle.steps.specs.Plan.{Planned, Coded, Lists, Readable, Offered, Spotted, listed, Usable, Each};
+ghost use Rattle.steps.specs.Plan.{Planned, Coded, Lists, Readable, Offered, listed, Usable, Each};
 
 // What a block's shape, settings, bias and scale give.
 pub struct Plan {
@@ -34,17 +34,10 @@ pub struct Plan {
     pub scale: f32,
 }
 
-// What a window position offers: the ideal, the candidates, and the level that is there.
+// What a window position offers beside its candidates, which stand in an array: the ideal, how many candidates there are, and the level that is there.
 pub struct Offer {
     pub ideal: f32,
-    pub candidates: Candidates,
-    pub level: i32,
-}
-
-// A window position: what prices a level there, the candidates, and the level that is there.
-pub struct Spot {
-    pub place: Place,
-    pub candidates: Candidates,
+    pub count: usize,
     pub level: i32,
 }
 
@@ -77,7 +70,7 @@ pub fn plan_of(shape: Shape, settings: Settings, bias: DequantBias, scale: f32) 
 }
 
 impl Plan {
-    // What window position i offers; the walk back asks for no more.
+    // What window position i offers, its candidates listed in `offered`; the walk back asks for no more.
     pub fn offer(
         self,
         scan: &[u32],
@@ -85,11 +78,12 @@ impl Plan {
         inv_qm: &[f32],
         levels: &[i32],
         i: usize,
+        offered: &mut [i32; 5],
     ) -> Offer
         requires { ⌜ Readable (now scan) (now source) (now «inv_qm») (now levels) (self .scale) (self .covered + i) ⌝ }
         requires { ⌜ self .covered + i < 65536 ⌝ }
-        ensures { λ r. ⌜ ((b : Block) → Lists b (now (scan .entry)) (now (source .entry)) (now («inv_qm» .entry)) (now (levels .entry)) → Planned b self → Offered b i r) ⌝ }
-        ensures { λ r. ⌜ (Usable (r .candidates)) × (r .level ≡ levelAt (now (scan .entry)) (now (levels .entry)) (self .covered + i)) ⌝ }
+        ensures { λ r. ⌜ ((b : Block) → Lists b (now (scan .entry)) (now (source .entry)) (now («inv_qm» .entry)) (now (levels .entry)) → Planned b self → Offered b i r (now (offered .exit))) ⌝ }
+        ensures { λ r. ⌜ (Usable (inArray (r .count) (now (offered .exit)))) × (r .level ≡ levelAt (now (scan .entry)) (now (levels .entry)) (self .covered + i)) ⌝ }
     {
         let k = self.covered + i;
         let ideal = crate::ideal_at(scan, source, inv_qm, self.scale, k);
@@ -97,7 +91,7 @@ impl Plan {
         let window = self.window;
         Offer {
             ideal,
-            candidates: candidates::rdoq_candidates(ideal, level, i < window.restoring),
+            count: candidates::list_candidates(ideal, level, i < window.restoring, offered),
             level,
         }
     }
@@ -121,28 +115,6 @@ impl Plan {
         }
     }
 
-    pub fn spot(
-        self,
-        scan: &[u32],
-        source: &[f32],
-        inv_qm: &[f32],
-        levels: &[i32],
-        i: usize,
-    ) -> Spot
-        requires { ⌜ Readable (now scan) (now source) (now «inv_qm») (now levels) (self .scale) (self .covered + i) ⌝ }
-        requires { ⌜ (self .base ≤ 1024) × (self .covered + i < 65536) ⌝ }
-        ensures { λ r. ⌜ ((b : Block) → Lists b (now (scan .entry)) (now (source .entry)) (now («inv_qm» .entry)) (now (levels .entry)) → Planned b self → Spotted b (self .log2) i r) ⌝ }
-        ensures { λ r. ⌜ Usable (r .candidates) ⌝ }
-    {
-        let offer = self.offer(scan, source, inv_qm, levels, i);
-        let candidates = offer.candidates;
-        Spot {
-            place: self.place(i, offer.ideal, offer.level),
-            candidates,
-            level: offer.level,
-        }
-    }
-
     fn nonzero_rate(self, level: i32) -> f32
         ensures { λ r. ⌜ r ≡ cond (eqb (nz level) 0) (self .«restore_rate») (self .lambda) ⌝ }
     {
@@ -155,16 +127,14 @@ impl Plan {
 }
 
 // The distortion of each candidate.
-pub fn distortions(place: Place, candidates: Candidates) -> [f32; 5]
-    requires { ⌜ Usable candidates ⌝ }
-    ensures { λ r. ⌜ Each (distortionAt place) (listed candidates) r ⌝ }
+pub fn distortions(place: Place, levels: &[i32; 5], count: usize, distortion: &mut [f32; 5])
+    requires { ⌜ Usable (inArray count (now levels)) ⌝ }
+    requires { ⌜ length (now distortion) ≡ 5 ⌝ }
+    ensures { λ _. ⌜ Each (distortionAt place) (listed (inArray count (now (levels .entry)))) (now (distortion .exit)) ⌝ }
 {
-    let count = candidates.count;
-    let mut distortion = [0.0f32; 5];
     let mut j = 0;
     while j < count {
-        distortion[j] = place.distortion(candidates.levels[j]);
+        distortion[j] = place.distortion(levels[j]);
         j += 1;
     }
-    distortion
 }

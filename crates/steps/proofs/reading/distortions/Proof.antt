@@ -12,14 +12,14 @@ use Rattle.steps.proofs.reading.distortions.Statement.{statement}
 use Rattle.steps.proofs.reading.distortions.Tie as tie
 
 abbrev Inv-loop : tie.InvT-loop
-Inv-loop place candidates count distortion₀ j₀ distortion j =
-    (j ≤ candidates .count) × ((length distortion ≡ 5) × Front nan (λ k. distortionAt place (getD (candidates .levels) k (pos 0))) j distortion)
+Inv-loop place levels count distortion₀ j₀ distortion j =
+    (j ≤ count) × ((length distortion ≡ 5) × Front nan (λ k. distortionAt place (getD levels k (pos 0))) j distortion)
 
 abbrev μ-loop : tie.MeasureT-loop
-μ-loop place candidates count distortion₀ j₀ distortion j = candidates .count - j
+μ-loop place levels count distortion₀ j₀ distortion j = count - j
 
 loop-holds : tie.Need-loop-holds Inv-loop μ-loop
-loop-holds c = (search needs, (refl, front-none _ _ _))
+loop-holds c = (search needs, (c .pre .1, front-none _ _ _))
 
 mul-distortion : tie.Need-mul-distortion Inv-loop μ-loop
 mul-distortion c = search needs
@@ -28,13 +28,13 @@ element-copy-out-distortion : tie.Need-element-copy-out-distortion Inv-loop μ-l
 element-copy-out-distortion c = search needs
 
 distortion-requires : tie.Need-distortion-requires Inv-loop μ-loop
-distortion-requires c κs = usable-level (c .before .before .before .pre) _ (c .before .loop-test .taken)
+distortion-requires c κs = usable-level (c .before .before .before .pre .0) _ (c .before .loop-test .taken)
 
 mul-distortion-2 : tie.Need-mul-distortion-2 Inv-loop μ-loop
 mul-distortion-2 c = search needs
 
-array-write-distortion : tie.Need-array-write-distortion Inv-loop μ-loop
-array-write-distortion c = search needs
+element-write-distortion : tie.Need-element-write-distortion Inv-loop μ-loop
+element-write-distortion c = search needs
 
 add-j : tie.Need-add-j Inv-loop μ-loop
 add-j c = search needs
@@ -51,16 +51,16 @@ loop-again c =
       search needs,
       (
         simp length-set long,
-        front-more (rw long (omega (arith, start .pre .few))) (at-loop .loop .inv .1 .1)
-            (c .distortion .ensures ∙ ap (distortionAt (start .args .place)) (usable-back (start .pre) _ here)),
+        front-more (rw long (omega (arith, start .pre .0 .few))) (at-loop .loop .inv .1 .1)
+            (c .distortion .ensures ∙ ap (distortionAt (start .args .place)) (usable-back (start .pre .0) _ here)),
       ),
     )
 
 returns : tie.Need-returns Inv-loop μ-loop
 returns c =
     let start = c .before .before in
-    let last : c .before .loop .j ≡ start .args .t2 .count = omega arith in
-    each-listed (start .pre) (rw last at (c .before .loop .inv .1 .1))
+    let last : c .before .loop .j ≡ start .args .count = omega arith in
+    each-listed (start .pre .0) (rw last at (c .before .loop .inv .1 .1))
 
 pub distortions-spec : {M : Type 1} → statement M
 distortions-spec =
@@ -73,7 +73,7 @@ distortions-spec =
     element-copy-out-distortion
     distortion-requires
     mul-distortion-2
-    array-write-distortion
+    element-write-distortion
     add-j
     loop-less
     loop-again

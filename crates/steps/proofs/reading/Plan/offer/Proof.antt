@@ -15,24 +15,24 @@ ideal-at-requires c κs = search needs
 level-at-requires : tie.Need-level-at-requires
 level-at-requires c κs = search needs
 
-rdoq-candidates-requires : tie.Need-rdoq-candidates-requires
-rdoq-candidates-requires c κs =
-    let start = c .before .before .before .before .before .before .before .before in
-    let ideal = c .before .before .before .ideal-at .ensures in
-    let level = c .before .before .level-at .ensures in
+list-candidates-requires : tie.Need-list-candidates-requires
+list-candidates-requires c κs =
+    let start = c .before .before .before .before .before .before .before .before .before in
+    let ideal = c .before .before .before .before .ideal-at .ensures in
+    let level = c .before .before .before .level-at .ensures in
     (rw ideal (start .pre .0 .ideal), handed-current _ _ level (start .pre .0 .level))
 
 returns : tie.Need-returns
 returns c =
-    let start = c .before .before .before .before .before .before .before .before .before in
-    let ideal = c .before .before .before .before .ideal-at .ensures in
-    let level = c .before .before .before .level-at .ensures in
+    let start = c .before .before .before .before .before .before .before .before .before .before in
+    let ideal = c .before .before .before .before .before .ideal-at .ensures in
+    let level = c .before .before .before .before .level-at .ensures in
     let back = handed-back _ _ level (start .pre .0 .level) in
-    let found = c .rdoq-candidates .ensures in (
+    let found = c .list-candidates .ensures in (
       λ b lists planned. offered b _ _ _ _ _ _ _ _ _ _ lists planned refl ideal back found,
       (filled-usable _ _ (ltb (start .args .i) (start .args .self .window .restoring)) _ (rw ideal (start .pre .0 .ideal)) (handed-current _ _ level (start .pre .0 .level)) found, back),
     )
 
 pub offer-spec : {M : Type 1} → statement M
 offer-spec =
-    tie.close (tie.spec add-k ideal-at-requires level-at-requires rdoq-candidates-requires returns)
+    tie.close (tie.spec add-k ideal-at-requires level-at-requires list-candidates-requires returns)
