@@ -13,7 +13,7 @@ use borrow.Author.Tests.{eq-eqb, ne-eqb}
 use mir.Syntax.{w32}
 use mir.Val.{ofZ, toZ}
 use Rattle.bias.specs.Level.{isLevel}
-use Rattle.candidates.specs.Candidates.{isCurrent}
+use Rattle.candidates.specs.Candidates.{inArray, isCurrent}
 use Rattle.steps.proofs.Zero.{handed-current, current-level, level-back}
 use Rattle.block.specs.Band.{inputAfter}
 use Rattle.block.specs.Block.{Block, covered, inputAt, inputRemaining, nonzerosAmong, candidatesAt}
@@ -153,12 +153,12 @@ pub inputs : {b : Block} {p : Plan} {scan : List ℕ} {source inverse : List Flo
 unfolding inputAt
 inputs i l w = rw (l .scan-is, l .levels-is, w .covered-is)
 
-module _ (book : Book) {b : Block} {i : ℕ} {offer : Offer} (s : Offered b i offer) (u : Usable (offer .candidates)) {current : ℤ} (ec : current ≡ inputAt b (covered b + i))
-    {later : ℕ} (e : later ≡ inputAfter b i) {t : Bool} (et : t ≡ (eqb (offer .candidates .count) 1 || (eqb (nz current) 0 && eqb later 0))) where
+module _ (book : Book) {b : Block} {i : ℕ} {offer : Offer} {levels : List ℤ} (s : Offered b i offer levels) (u : Usable (inArray (offer .count) levels)) {current : ℤ} (ec : current ≡ inputAt b (covered b + i))
+    {later : ℕ} (e : later ≡ inputAfter b i) {t : Bool} (et : t ≡ (eqb (offer .count) 1 || (eqb (nz current) 0 && eqb later 0))) where
   stays-is : t ≡ stays (windowOf (covered b)) b i
   unfolding stays
   stays-is =
-      let many : offer .candidates .count ≡ length (candidatesAt (windowOf (covered b)) b i) = sym (listed-length u) ∙ ap length (s .listed-is) in
+      let many : offer .count ≡ length (candidatesAt (windowOf (covered b)) b i) = sym (listed-length u) ∙ ap length (s .listed-is) in
       cc
 
   pub chosen-stays : t ≡ true → current ≡ chosen (windowOf (covered b)) book b i
@@ -166,7 +166,7 @@ module _ (book : Book) {b : Block} {i : ℕ} {offer : Offer} (s : Offered b i of
   chosen-stays it = rw (sym stays-is ∙ it) ec
 
   pub chosen-least : {others front : ℕ} {run : Float} {r : ℤ} → t ≡ false → others ≡ othersOf b i → front ≡ frontOf b i → run ≡ runOf book b i
-      → r ≡ holder (costOf book b i later others front run) (inf false) current (listed (offer .candidates)) → r ≡ chosen (windowOf (covered b)) book b i
+      → r ≡ holder (costOf book b i later others front run) (inf false) current (listed (inArray (offer .count) levels)) → r ≡ chosen (windowOf (covered b)) book b i
   unfolding chosen greedyCost
   chosen-least it eo ef er eh =
       let cands = s .listed-is in

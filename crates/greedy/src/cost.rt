@@ -1,5 +1,4 @@
 // What a candidate costs, and the cheapest of them.
-use candidates::Candidates;
 use steps::Place;
 use steps::reading::Plan;
 ghost use mathlib.Core.Path.{_≡_};
@@ -11,6 +10,7 @@ ghost use Rattle.ac_context.specs.Contexts.{Covered, Coefficient, zeroDensityCo
 ghost use Rattle.bias.specs.Level.{isLevel};
 ghost use Rattle.block.specs.Block.{Block};
 ghost use Rattle.block.specs.Cost.{tokenPrice};
+ghost use Rattle.candidates.specs.Candidates.{inArray};
 ghost use Rattle.least_cost.specs.Search.{holder};
 ghost use Rattle.prices.specs.Book.{bookOf};
 ghost use Rattle.prices.specs.Checks.{bookRefusal};
@@ -152,7 +152,8 @@ pub(crate) fn cheapest(
     ready: &[f32],
     plan: Plan,
     place: Place,
-    candidates: Candidates,
+    levels: &[i32; 5],
+    count: usize,
     i: usize,
     around: Around,
     current: i32,
@@ -160,20 +161,19 @@ pub(crate) fn cheapest(
     requires { ⌜ bookRefusal (bookOf clusters (now map) (now configs) (now symbols) (now ready)) ≡ 0 ⌝ }
     requires { ⌜ Coded plan ⌝ }
     requires { ⌜ (around .later + 1 + (plan .covered + i) ≤ 64 * plan .covered) × ((around .others < 64 * plan .covered) × (around .front ≤ 1)) ⌝ }
-    requires { ⌜ Usable candidates ⌝ }
+    requires { ⌜ Usable (inArray count (now levels)) ⌝ }
     requires { ⌜ T (isLevel current) ⌝ }
     ensures { λ r. ⌜ ((b : Block) → Planned b plan → place ≡ placeOf b (plan .log2) i
-        → r ≡ holder (costOf (bookOf clusters (now (map .entry)) (now (configs .entry)) (now (symbols .entry)) (now (ready .entry))) b i (around .later) (around .others) (around .front) (around .run)) (inf false) current (listed candidates)) ⌝ }
+        → r ≡ holder (costOf (bookOf clusters (now (map .entry)) (now (configs .entry)) (now (symbols .entry)) (now (ready .entry))) b i (around .later) (around .others) (around .front) (around .run)) (inf false) current (listed (inArray count (now (levels .entry))))) ⌝ }
     ensures { λ r. ⌜ T (isLevel r) ⌝ }
 {
-    let count = candidates.count;
     let mut best = Best {
         cost: costs::infinity(),
         level: current,
     };
     let mut j = 0;
     while j < count {
-        let level = candidates.levels[j];
+        let level = levels[j];
         let cost = candidate_cost(
             clusters,
             map,

@@ -104,10 +104,10 @@ fn choice(
         → r ≡ chosen (windowOf (coveredBy b)) (bookOf clusters (now (map .entry)) (now (configs .entry)) (now (symbols .entry)) (now (ready .entry))) b i) ⌝ }
     ensures { λ r. ⌜ T (isLevel r) ⌝ }
 {
-    let offer = plan.offer(scan, source, inv_qm, levels, i);
-    let candidates = offer.candidates;
+    let mut offered = [0i32; 5];
+    let offer = plan.offer(scan, source, inv_qm, levels, i, &mut offered);
     let current = offer.level;
-    if stays(candidates.count, current, counts.later) {
+    if stays(offer.count, current, counts.later) {
         return current;
     }
     let place = plan.place(i, offer.ideal, current);
@@ -138,7 +138,8 @@ fn choice(
         ready,
         plan,
         place,
-        candidates,
+        &offered,
+        offer.count,
         i,
         around,
         current,

@@ -4,6 +4,7 @@ use Rattle.greedy.proofs.Costing.{listed-length, usable-level, usable-l
 use Rattle.greedy.specs.Greedy.{costOf}
 use Rattle.bias.specs.Level.{isLevel}
 use Rattle.block.specs.Block.{Block}
+use Rattle.candidates.specs.Candidates.{inArray}
 use Rattle.least_cost.specs.Search.{holder}
 use Rattle.prices.specs.Book.{bookOf}
 use Rattle.steps.proofs.Zero.{level-back}
@@ -21,15 +22,15 @@ use Rattle.greedy.proofs.cost.cheapest.Statement.{statement}
 use Rattle.greedy.proofs.cost.cheapest.Tie as tie
 
 abbrev Inv-loop : tie.InvT-loop
-Inv-loop clusters map configs symbols ready plan place i around current candidates count best₀ j₀ best j =
-    (j ≤ candidates .count)
+Inv-loop clusters map configs symbols ready plan place levels count i around current best₀ j₀ best j =
+    (j ≤ count)
     × (T (isLevel (best .level))
     × ((b : Block) → Planned b plan → place ≡ placeOf b (plan .log2) i
-    → holder (costOf (bookOf clusters map configs symbols ready) b i (around .later) (around .others) (around .front) (around .run)) (best .cost) (best .level) (drop j (listed candidates))
-    ≡ holder (costOf (bookOf clusters map configs symbols ready) b i (around .later) (around .others) (around .front) (around .run)) (inf false) (toZ w32 current) (listed candidates)))
+    → holder (costOf (bookOf clusters map configs symbols ready) b i (around .later) (around .others) (around .front) (around .run)) (best .cost) (best .level) (drop j (listed (inArray count levels)))
+    ≡ holder (costOf (bookOf clusters map configs symbols ready) b i (around .later) (around .others) (around .front) (around .run)) (inf false) (toZ w32 current) (listed (inArray count levels))))
 
 abbrev μ-loop : tie.MeasureT-loop
-μ-loop clusters map configs symbols ready plan place i around current candidates count best₀ j₀ best j = candidates .count - j
+μ-loop clusters map configs symbols ready plan place levels count i around current best₀ j₀ best j = count - j
 
 infinity-requires : tie.Need-infinity-requires Inv-loop μ-loop
 infinity-requires c κs = search needs
@@ -83,7 +84,7 @@ returns c =
     let at-loop = c .before .before in
     let start = at-loop .before .before .before .before .before .before in
     let usable = start .pre .1 .1 .1 .0 in
-    let last : at-loop .loop .j ≡ start .args .t8 .count = omega arith in
+    let last : at-loop .loop .j ≡ start .args .count = omega arith in
     let level = at-loop .loop .inv .1 .0 in (
       λ b w at.
           holder-done _ _ _ _ _ _ _ _ (last ∙ sym (listed-length usable)) (level-back _ level) (level-back (start .args .current) (start .pre .1 .1 .1 .1)) (at-loop .loop .inv .1 .1 b w at),

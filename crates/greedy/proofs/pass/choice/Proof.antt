@@ -10,7 +10,7 @@ use Rattle.greedy.proofs.pass.choice.Tie as tie
 
 offer-requires : tie.Need-offer-requires
 offer-requires c κs =
-    let start = c .before .before .before .before .before .before .before in
+    let start = c .before .before .before .before .before .before .before .before in
     let pre = start .pre in
     let fitting = pre .1 .1 .0 in
     let ok = pre .1 .1 .1 .0 in
@@ -30,13 +30,13 @@ returns c =
     let here = pre .1 .1 .1 .1 .0 in
     let counts = pre .1 .1 .1 .1 .1 in
     let reads = readable-at fitting ok _ here (omega arith) in
-    let level = c .before .before .before .before .offer .ensures .1 .1 in
-    let back = handed-back _ (c .before .before .before .before .offer .result .level) level (reads .level) in (
+    let level = c .before .before .before .offer .ensures .1 .1 in
+    let back = handed-back _ (c .before .before .before .offer .result .level) level (reads .level) in (
       λ b lists w.
-          let offered = c .before .before .before .before .offer .ensures .0 b lists w in
+          let offered = c .before .before .before .offer .ensures .0 b lists w in
           let current = back ∙ inputs (start .args .i) lists w in
-          chosen-stays _ offered (c .before .before .before .before .offer .ensures .1 .0) current (later-is (lists .scan-is) (lists .levels-is) w _ (counts .0)) (c .before .stays .ensures) (c .if1 .taken),
-      handed-level _ (c .before .before .before .before .offer .result .level) level (reads .level),
+          chosen-stays _ offered (c .before .before .before .offer .ensures .1 .0) current (later-is (lists .scan-is) (lists .levels-is) w _ (counts .0)) (c .before .stays .ensures) (c .if1 .taken),
+      handed-level _ (c .before .before .before .offer .result .level) level (reads .level),
     )
 
 place-requires : tie.Need-place-requires
@@ -48,7 +48,7 @@ place-requires c κs =
     let here = pre .1 .1 .1 .1 .0 in
     let counts = pre .1 .1 .1 .1 .1 in
     let reads = readable-at fitting ok _ here (omega arith) in
-    (fitting .base, (omega (arith, fitting .window, fitting .most), handed-current _ (c .before .before .before .before .offer .result .level) (c .before .before .before .before .offer .ensures .1 .1) (reads .level)))
+    (fitting .base, (omega (arith, fitting .window, fitting .most), handed-current _ (c .before .before .before .offer .result .level) (c .before .before .before .offer .ensures .1 .1) (reads .level)))
 
 front-requires : tie.Need-front-requires
 front-requires c κs =
@@ -74,8 +74,8 @@ run-bits-requires c κs =
 nonzero-requires : tie.Need-nonzero-requires
 nonzero-requires c κs = search needs
 
-sub-t22 : tie.Need-sub-t22
-sub-t22 c =
+sub-t23 : tie.Need-sub-t23
+sub-t23 c =
     let start = c .before .before .before .before .before .before .before .before .before .before .before .before .before .before .before .before .before in
     let pre = start .pre in
     let fitting = pre .1 .1 .0 in
@@ -84,13 +84,13 @@ sub-t22 c =
     let counts = pre .1 .1 .1 .1 .1 in
     let inside : start .args .plan .covered + start .args .i < 64 * start .args .plan .covered = omega (arith, fitting .window) in
     let reads = readable-at fitting ok _ here (omega arith) in
-    let level = c .before .before .before .before .before .before .before .before .before .offer .ensures .1 .1 in
-    let back = handed-back _ (c .before .before .before .before .before .before .before .before .before .offer .result .level) level (reads .level) in
+    let level = c .before .before .before .before .before .before .before .before .offer .ensures .1 .1 in
+    let back = handed-back _ (c .before .before .before .before .before .before .before .before .offer .result .level) level (reads .level) in
     others-few _ _ _ _ inside (counts .1) (c .before .nonzero .ensures ∙ ap nz back) .0
 
 cheapest-requires : tie.Need-cheapest-requires
 cheapest-requires c κs =
-    let start = c .before .before .before .before .before .before .before .before .before .before .before .before .before .before .before .before .before in
+    let start = c .before .before .before .before .before .before .before .before .before .before .before .before .before .before .before .before .before .before in
     let pre = start .pre in
     let fitting = pre .1 .1 .0 in
     let ok = pre .1 .1 .1 .0 in
@@ -104,7 +104,7 @@ cheapest-requires c κs =
       (
         pre .1 .0,
         (
-          (later-few _ _ _ _ inside (counts .0), (others-few _ _ _ _ inside (counts .1) (c .before .nonzero .ensures ∙ ap nz back) .1, c .before .before .before .front .ensures .1)),
+          (later-few _ _ _ _ inside (counts .0), (others-few _ _ _ _ inside (counts .1) (c .before .before .nonzero .ensures ∙ ap nz back) .1, c .before .before .before .before .front .ensures .1)),
           (c .before .before .before .before .before .before .before .before .before .offer .ensures .1 .0, handed-level _ (c .before .before .before .before .before .before .before .before .before .offer .result .level) level (reads .level)),
         ),
       ),
@@ -112,7 +112,7 @@ cheapest-requires c κs =
 
 returns-2 : tie.Need-returns-2
 returns-2 c =
-    let start = c .before .before .before .before .before .before .before .before .before .before .before .before .before .before .before .before .before .before in
+    let start = c .before .before .before .before .before .before .before .before .before .before .before .before .before .before .before .before .before .before .before in
     let pre = start .pre in
     let fitting = pre .1 .1 .0 in
     let ok = pre .1 .1 .1 .0 in
@@ -127,11 +127,11 @@ returns-2 c =
           let usable = c .before .before .before .before .before .before .before .before .before .before .offer .ensures .1 .0 in
           let current = back ∙ inputs (start .args .i) lists w in
           let later = later-is (lists .scan-is) (lists .levels-is) w _ (counts .0) in
-          let others = others-is (lists .scan-is) (lists .levels-is) w _ inside (counts .0) (counts .1) (c .before .before .nonzero .ensures ∙ ap nz back) in
-          let place = c .before .before .before .before .before .place .ensures b w (offered .ideal-is) current in
+          let others = others-is (lists .scan-is) (lists .levels-is) w _ inside (counts .0) (counts .1) (c .before .before .before .nonzero .ensures ∙ ap nz back) in
+          let place = c .before .before .before .before .before .before .place .ensures b w (offered .ideal-is) current in
           passed-on _ _ (c .cheapest .ensures .1)
-          (chosen-least _ offered usable current later (c .before .before .before .before .before .before .before .stays .ensures) (c .before .before .before .before .before .before .if1 .left) others (c .before .before .before .before .front .ensures .0 b (lists .scan-is) (lists .levels-is) (w .covered-is))
-          (c .before .before .before .run-bits .ensures b (lists .scan-is) (lists .levels-is) w later) (c .cheapest .ensures .0 b w place)),
+          (chosen-least _ offered usable current later (c .before .before .before .before .before .before .before .before .stays .ensures) (c .before .before .before .before .before .before .before .if1 .left) others (c .before .before .before .before .before .front .ensures .0 b (lists .scan-is) (lists .levels-is) (w .covered-is))
+          (c .before .before .before .before .run-bits .ensures b (lists .scan-is) (lists .levels-is) w later) (c .cheapest .ensures .0 b w place)),
       passed-level (c .cheapest .result) (c .cheapest .ensures .1),
     )
 
@@ -146,6 +146,6 @@ choice-spec =
     front-requires
     run-bits-requires
     nonzero-requires
-    sub-t22
+    sub-t23
     cheapest-requires
     returns-2)
