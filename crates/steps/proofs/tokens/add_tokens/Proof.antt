@@ -7,38 +7,35 @@ use Rattle.least_cost.proofs.Trial.{nz-le}
 use Rattle.least_cost.specs.Position.{nz}
 use Rattle.block.specs.Cost.{tokensFrom}
 use Rattle.block.specs.Block.{Block, nonzerosAmong}
-use lib.Ieee.{fin, ofBits}
-use lib.IntN.{ℤ, pos}
 use lib.ListN.{length}
 use native.Mathlib.Nat.{le-refl}
 use native.Mathlib.Omega.{arith}
 use Prim.Native.Nat.{ℕ, _≤_, _<_, _-_, _+_}
-use mathlib.Core.Bool.{false}
 use mathlib.Core.Path.{_≡_, refl, sym, _∙_, ap}
 use borrow.Author.Needs.{needs}
-use Rattle.steps.proofs.tokens.tail_cost.Statement.{statement}
-use Rattle.steps.proofs.tokens.tail_cost.Tie as tie
+use Rattle.steps.proofs.tokens.add_tokens.Statement.{statement}
+use Rattle.steps.proofs.tokens.add_tokens.Tie as tie
 
 abbrev Inv-loop : tie.InvT-loop
-Inv-loop clusters map configs symbols ready plan scan levels from count before remaining₀ prev₀ k₀ sum₀ remaining prev k sum =
+Inv-loop clusters map configs symbols ready plan scan levels from count before remaining₀ prev₀ k₀ first₀ second₀ remaining prev k first second =
     ((from ≤ k) × (k ≤ length scan))
     × ((prev ≤ 1)
     × ((remaining ≡ nonzerosAmong scan levels k (length scan - k))
     × ((b : Block) → scan ≡ b .scan → levels ≡ b .levels → Planned b plan
-    → tokensFrom (bookOf clusters map configs symbols ready) b (length scan - k) remaining k prev sum ≡ tokensFrom (bookOf clusters map configs symbols ready) b (length scan - from) count from before (fin false 0 (pos 0)))))
+    → (tokensFrom (bookOf clusters map configs symbols ready) b (length scan - k) remaining k prev first ≡ tokensFrom (bookOf clusters map configs symbols ready) b (length scan - from) count from before first₀)
+    × (tokensFrom (bookOf clusters map configs symbols ready) b (length scan - k) remaining k prev second ≡ tokensFrom (bookOf clusters map configs symbols ready) b (length scan - from) count from before second₀))))
 
 abbrev μ-loop : tie.MeasureT-loop
-μ-loop clusters map configs symbols ready plan scan levels from count before remaining₀ prev₀ k₀ sum₀ remaining prev k sum = length scan - k
+μ-loop clusters map configs symbols ready plan scan levels from count before remaining₀ prev₀ k₀ first₀ second₀ remaining prev k first second = length scan - k
 
 loop-holds : tie.Need-loop-holds Inv-loop μ-loop
-unfolding ofBits
-loop-holds c = let pre = c .before .before .before .before .before .pre in ((le-refl _, pre .1 .1 .1 .0 .1), (pre .1 .1 .1 .1 .1, (pre .1 .1 .1 .1 .0, λ b es el w. refl)))
+loop-holds c = let pre = c .before .before .before .before .before .pre in ((le-refl _, pre .1 .1 .1 .0 .1), (pre .1 .1 .1 .1 .1, (pre .1 .1 .1 .1 .0, λ b es el w. (refl, refl))))
 
 returns : tie.Need-returns Inv-loop μ-loop
 returns c =
     λ b es el w.
-    let at-loop = c .before .before in
-    sym (tokens-done _ b _ _ _ _) ∙ rw (c .if1 .taken) at (at-loop .loop .inv .1 .1 .1 b es el w)
+    let sums = c .before .before .loop .inv .1 .1 .1 b es el w in
+    (sym (tokens-done _ b _ _ _ _) ∙ rw (c .if1 .taken) at (sums .0), sym (tokens-done _ b _ _ _ _) ∙ rw (c .if1 .taken) at (sums .1))
 
 level-at-requires : tie.Need-level-at-requires Inv-loop μ-loop
 level-at-requires c κs = let start = c .before .before .before .before .before .before .before .before in (c .before .loop-test .taken, start .pre .1 .1 .0 .within _ (c .before .loop-test .taken))
@@ -95,8 +92,12 @@ loop-again c =
         (
           omega (arith, inv .1 .1 .0, among-first (start .args .scan .now) (start .args .levels .now) (length (start .args .scan .now)) (at-loop .loop .k) here),
           λ b es el w.
-              tokens-step _ b _ _ _ _ _ _ _ _ _ _ _ es el w back (c .before .token-cost .ensures b w) (c .nonzero .ensures) here (c .before .before .before .if1 .left)
-              ∙ inv .1 .1 .1 b es el w,
+              let sums = inv .1 .1 .1 b es el w in
+              let some = c .before .before .before .if1 .left in
+              let cost = c .before .token-cost .ensures b w in (
+                tokens-step _ b _ _ _ _ _ _ _ _ _ _ _ es el w back cost (c .nonzero .ensures) here some ∙ sums .0,
+                tokens-step _ b _ _ _ _ _ _ _ _ _ _ _ es el w back cost (c .nonzero .ensures) here some ∙ sums .1,
+              ),
         ),
       ),
     )
@@ -106,10 +107,11 @@ returns-2 c =
     λ b es el w.
     let inv = c .before .loop .inv in
     let last : c .before .loop .k ≡ length (c .before .before .before .before .before .before .before .args .scan .now) = omega (arith, inv .0 .1) in
-    sym (tokens-past _ b _ _ _ _) ∙ rw last at (inv .1 .1 .1 b es el w)
+    let sums = rw last at (inv .1 .1 .1 b es el w) in
+    (sym (tokens-past _ b _ _ _ _) ∙ sums .0, sym (tokens-past _ b _ _ _ _) ∙ sums .1)
 
-pub tail-cost-spec : {M : Type 1} → statement M
-tail-cost-spec =
+pub add-tokens-spec : {M : Type 1} → statement M
+add-tokens-spec =
     tie.close
     (tie.spec
     Inv-loop
