@@ -1,4 +1,3 @@
-mod Bools
 mod Counts
 mod Marks
 pub mod Once
