@@ -104,6 +104,20 @@ once-all (suc n) s many e =
     let one = many n (omega arith) in
     rw (once-all n s (λ i h. many i (omega arith)) (omega arith)) (eq-eqb (countOf n s) 1 (omega arith))
 
+total-few : (n : ℕ) (s : List ℕ) → ((i : ℕ) → i < n → countOf i s ≤ 1) → total n s ≤ n
+unfolding total
+total-few zero s few = lit≤ tt
+total-few (suc n) s few = omega (arith, total-few n s (λ i h. few i (omega arith)), few n (omega arith))
+
+-- and so are counts of at most 1
+pub few-ones : (n : ℕ) (s : List ℕ) → ((i : ℕ) → i < n → countOf i s ≤ 1) → total n s ≡ n → (i : ℕ) → i < n → countOf i s ≡ 1
+unfolding total
+few-ones zero s few e i h = absurd (not-suc-le-zero h)
+few-ones (suc n) s few e i h =
+    let less = total-few n s (λ i l. few i (omega arith)) in
+    let one = few n (omega arith) in
+    either i n (λ p. rw p (omega arith)) (λ d. few-ones n s (λ i l. few i (omega arith)) (omega arith) i (omega arith))
+
 pub once-at : (n : ℕ) (s : List ℕ) → onceBelow n s ≡ true → (i : ℕ) → i < n → countOf i s ≡ 1
 unfolding onceBelow
 once-at zero s e i h = absurd (not-suc-le-zero h)

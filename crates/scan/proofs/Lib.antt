@@ -1,4 +1,5 @@
 mod Counts
 mod Marks
 pub mod Once
+pub mod Order
 pub mod Through
