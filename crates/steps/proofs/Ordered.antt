@@ -1,12 +1,12 @@
 -- Nonzero levels counted through the scan are those counted in the list's own order. Assumes nothing.
 use mathlib.Core.Path.{_≡_, refl, sym, _∙_}
 use mathlib.Core.List.{List}
-use Prim.Native.Nat.{ℕ, zero, suc, _+_}
+use Prim.Native.Nat.{ℕ, zero, suc, _+_, _-_, _≤_}
 use native.Mathlib.Nat.{add-zero, zero-add, suc-add, add-suc}
 use native.Mathlib.Numerals.{add-one}
 use native.Mathlib.Omega.{arith}
 use lib.IntN.{ℤ, pos}
-use lib.ListN.{getD}
+use lib.ListN.{length, getD}
 use Rattle.block.specs.Block.{nonzerosAmong}
 use Rattle.least_cost.specs.Position.{nz}
 use Rattle.scan.specs.Scan.{levelAt, sumTo, Perm}
@@ -31,3 +31,12 @@ module _ (scan : List ℕ) (levels : List ℤ) where
   pub among-all : {n : ℕ} → Perm scan n → nonzerosAmong scan levels 0 n ≡ sumTo (λ i. nz (getD levels i (pos 0))) n
   unfolding levelAt
   among-all {n} scanned = among-sum n ∙ sum-through scanned (λ i. nz (getD levels i (pos 0)))
+
+  -- so those from a position on are all less those in front
+  pub among-rest : Perm scan (length levels) → (from : ℕ) → from ≤ length scan
+      → sumTo (λ i. nz (getD levels i (pos 0))) (length levels) ≡ nonzerosAmong scan levels 0 (from - 0) + nonzerosAmong scan levels from (length scan - from)
+  among-rest scanned from h =
+      let none : from - 0 ≡ from = omega arith in
+      let whole : from + (length scan - from) ≡ length levels = omega (arith, scanned .size) in
+      let parts = rw (whole, zero-add) at (among-split 0 from (length scan - from)) in
+      rw none (sym (among-all scanned) ∙ parts)

@@ -6,7 +6,7 @@ ghost use mathlib.Core.Bool.{false, cond};
 ghost use Prim.Native.Nat.{_+_, _-_, _*_, _/_, _<_, _≤_};
 ghost use lib.Dec.{T, leb};
 ghost use lib.IntN.{pos};
-ghost use lib.ListN.{length};
+ghost use lib.ListN.{length, getD};
 ghost use lib.Ieee.{fin, mul, binary32};
 ghost use Rattle.ac_context.specs.Contexts.{Coefficient};
 ghost use Rattle.bias.specs.Level.{isLevel};
@@ -15,22 +15,56 @@ ghost use Rattle.block.specs.Cost.{tokenPrice, tokensFrom, countCost};
 ghost use Rattle.candidates.specs.Candidates.{isCurrent};
 ghost use Rattle.prices.specs.Book.{bookOf};
 ghost use Rattle.prices.specs.Checks.{bookRefusal};
-ghost use Rattle.scan.specs.Scan.{levelAt};
+ghost use Rattle.least_cost.specs.Position.{nz};
+ghost use Rattle.scan.specs.Scan.{Perm, sumTo};
 ghost use Rattle.steps.specs.Plan.{Planned, Coded, Whole};
 
-// The nonzero levels from scan position `from` to the end.
-pub fn nonzeros_from(scan: &[u32], levels: &[i32], from: usize, covered: usize) -> usize
-    requires { ⌜ Whole covered from (now scan) (now levels) ⌝ }
-    requires { ⌜ from ≤ length (now scan) ⌝ }
-    ensures { λ r. ⌜ r ≡ nonzerosAmong (now (scan .entry)) (now (levels .entry)) from (length (now (scan .entry)) - from) ⌝ }
+// 1 for a level of 0.
+fn is_zero(level: i32) -> u32
+    ensures { λ r. ⌜ r + nz level ≡ 1 ⌝ }
 {
-    let mut k = scan.len();
+    if level == 0 { 1 } else { 0 }
+}
+
+// The nonzero levels of a list, in its own order: so the loop is vectorised.
+fn nonzeros_in(levels: &[i32]) -> usize
+    requires { ⌜ length (now levels) ≤ 65536 ⌝ }
+    ensures { λ r. ⌜ r ≡ sumTo (λ i. nz (getD (now (levels .entry)) i (pos 0))) (length (now (levels .entry))) ⌝ }
+{
+    let mut count = levels.len() as u32;
+    let mut i = 0;
+    while i < levels.len() {
+        count -= is_zero(levels[i]);
+        i += 1;
+    }
+    count as usize
+}
+
+// The nonzero levels from scan position `from` up to `end`.
+pub fn nonzeros_between(scan: &[u32], levels: &[i32], from: usize, end: usize) -> usize
+    requires { ⌜ Perm (now scan) (length (now levels)) ⌝ }
+    requires { ⌜ (from ≤ end) × (end ≤ length (now scan)) ⌝ }
+    ensures { λ r. ⌜ r ≡ nonzerosAmong (now (scan .entry)) (now (levels .entry)) from (end - from) ⌝ }
+{
+    let mut k = end;
     let mut count = 0;
     while from < k {
         k -= 1;
         count += crate::nonzero(crate::level_at(scan, levels, k));
     }
     count
+}
+
+// The nonzero levels from scan position `from` to the end. Where that is most of the block, all are counted in the list's own order, less those in front.
+pub fn nonzeros_from(scan: &[u32], levels: &[i32], from: usize) -> usize
+    requires { ⌜ (Perm (now scan) (length (now levels))) × (length (now levels) ≤ 65536) ⌝ }
+    requires { ⌜ from ≤ length (now scan) ⌝ }
+    ensures { λ r. ⌜ r ≡ nonzerosAmong (now (scan .entry)) (now (levels .entry)) from (length (now (scan .entry)) - from) ⌝ }
+{
+    if scan.len() < 2 * from {
+        return nonzeros_between(scan, levels, from, scan.len());
+    }
+    nonzeros_in(levels) - nonzeros_between(scan, levels, 0, from)
 }
 
 // The price of a level's token.

@@ -1,73 +1,44 @@
-use Rattle.steps.proofs.Counting.{among-most, among-none, among-back}
-use Rattle.steps.proofs.Zero.{handed-back}
-use Rattle.least_cost.proofs.Trial.{nz-le}
-use Rattle.least_cost.specs.Position.{nz}
-use Rattle.block.specs.Block.{nonzerosAmong}
-use lib.ListN.{length}
-use native.Mathlib.Nat.{le-refl}
 use native.Mathlib.Omega.{arith}
-use Prim.Native.Nat.{ℕ, _≤_, _-_, _<_}
-use mathlib.Core.Path.{_≡_, sym, _∙_, ap}
 use borrow.Author.Needs.{needs}
+use Rattle.steps.proofs.Ordered.{among-rest}
 use Rattle.steps.proofs.tokens.nonzeros_from.Statement.{statement}
 use Rattle.steps.proofs.tokens.nonzeros_from.Tie as tie
 
-abbrev Inv-loop : tie.InvT-loop
-Inv-loop scan levels from covered k₀ count₀ k count =
-    (from ≤ k) × ((k ≤ length scan) × (count ≡ nonzerosAmong scan levels k (length scan - k)))
+mul-if1 : tie.Need-mul-if1
+mul-if1 c = search needs
 
-abbrev μ-loop : tie.MeasureT-loop
-μ-loop scan levels from covered k₀ count₀ k count = k
+nonzeros-between-requires : tie.Need-nonzeros-between-requires
+nonzeros-between-requires c κs = search needs
 
-loop-holds : tie.Need-loop-holds Inv-loop μ-loop
-loop-holds c = (c .before .pre .1, (le-refl _, sym (among-none _ _ _)))
+returns : tie.Need-returns
+returns c = search needs
 
-sub-k : tie.Need-sub-k Inv-loop μ-loop
-sub-k c = search needs
+nonzeros-in-requires : tie.Need-nonzeros-in-requires
+nonzeros-in-requires c κs = search needs
 
-level-at-requires : tie.Need-level-at-requires Inv-loop μ-loop
-level-at-requires c κs = let w = c .before .before .before .pre .0 in (omega arith, w .within _ (omega arith))
+nonzeros-between-requires-2 : tie.Need-nonzeros-between-requires-2
+nonzeros-between-requires-2 c κs = search needs
 
-nonzero-requires : tie.Need-nonzero-requires Inv-loop μ-loop
-nonzero-requires c κs = search needs
+sub-result : tie.Need-sub-result
+sub-result c =
+    let start = c .before .before .before .before in
+    let rest = among-rest (start .args .scan .now) (start .args .levels .now) (start .pre .0 .0) (start .args .from) (start .pre .1) in
+    omega (arith, rest, c .before .nonzeros-in .ensures, c .nonzeros-between2 .ensures)
 
-add-count : tie.Need-add-count Inv-loop μ-loop
-add-count c =
-    let inv = c .before .before .before .loop .inv in
-    let start = c .before .before .before .before .before in
-    let most : c .before .before .before .loop .count ≤ length (start .args .scan .now) - c .before .before .before .loop .k = rw (inv .1 .1) (among-most _ _ _ _) in
-    let one : c .nonzero .result ≤ 1 = rw (c .nonzero .ensures) (nz-le _) in
-    record { fits = omega (arith, start .good .0 .0) }
-
-loop-less : tie.Need-loop-less Inv-loop μ-loop
-loop-less c = omega (arith, c .before .before .loop-test .taken)
-
-loop-again : tie.Need-loop-again Inv-loop μ-loop
-loop-again c =
-    let in-loop = c .before .before in
-    let inv = in-loop .before .loop .inv in
-    let w = in-loop .before .before .before .pre .0 in
-    let here = in-loop .loop-test .taken in
-    let level = c .before .level-at .ensures in
-    let back = handed-back _ _ level (w .level _ (omega arith) (omega arith)) in
-    (omega arith, (omega arith, among-back _ _ _ _ _ _ (omega arith) (inv .1 .0) (inv .1 .1) (c .nonzero .ensures ∙ ap nz back)))
-
-returns : tie.Need-returns Inv-loop μ-loop
-returns c =
-    let last : c .before .loop .k ≡ c .before .before .before .args .from = omega arith in
-    rw last at (c .before .loop .inv .1 .1)
+returns-2 : tie.Need-returns-2
+returns-2 c =
+    let start = c .before .before .before .before in
+    let rest = among-rest (start .args .scan .now) (start .args .levels .now) (start .pre .0 .0) (start .args .from) (start .pre .1) in
+    omega (arith, rest, c .before .nonzeros-in .ensures, c .nonzeros-between2 .ensures)
 
 pub nonzeros-from-spec : {M : Type 1} → statement M
 nonzeros-from-spec =
     tie.close
     (tie.spec
-    Inv-loop
-    μ-loop
-    loop-holds
-    sub-k
-    level-at-requires
-    nonzero-requires
-    add-count
-    loop-less
-    loop-again
-    returns)
+    mul-if1
+    nonzeros-between-requires
+    returns
+    nonzeros-in-requires
+    nonzeros-between-requires-2
+    sub-result
+    returns-2)
