@@ -33,7 +33,7 @@ use Rattle.scan.proofs.Through.{level-same, level-other}
 use Rattle.weights.specs.Window.{windowOf}
 use Rattle.weights.specs.declared.Window.{Window}
 use Rattle.greedy.specs.Greedy.{Outcome, othersOf, runStart, greedyCost, stays, chosen, settledAt, settledFrom, greedyLevels, greedyOutcome, CountAnswered}
-use Rattle.greedy.proofs.Passing.{among-split}
+use Rattle.steps.proofs.Ordered.{among-split}
 
 -- ---- the first least is listed where the level to fall back on is
 pub holder-listed : {A : Type 0} (g : A → Float) (v : Float) (d : A) (cs xs : List A) → Mem d xs → ((c : A) → Mem c cs → Mem c xs) → Mem (holder g v d cs) xs

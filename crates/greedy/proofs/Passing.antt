@@ -25,6 +25,7 @@ use Rattle.steps.specs.Plan.{Planned, Lists, Readable, Offered, Usable, listed}
 use Rattle.steps.specs.declared.reading.Plan.{Plan}
 use Rattle.steps.specs.declared.reading.Offer.{Offer}
 use Rattle.steps.proofs.Counting.{among-most}
+use Rattle.steps.proofs.Ordered.{among-split}
 use Rattle.weights.specs.Window.{windowOf}
 use Rattle.greedy.specs.Greedy.{none, othersOf, frontOf, runStart, zerosFrom, runOf, costOf, greedyCost, stays, chosen}
 use Rattle.greedy.specs.Reading.{Fitting, Ready, Windowed, countFrom}
@@ -62,25 +63,12 @@ module _ {p : Plan} {scan : List ℕ} {source inverse : List Float} {levels : Li
 
 -- ---- counts
 module _ (scan : List ℕ) (levels : List ℤ) where
-  pub among-split : (k m n : ℕ) → nonzerosAmong scan levels k (m + n) ≡ nonzerosAmong scan levels k m + nonzerosAmong scan levels (k + m) n
-  unfolding nonzerosAmong
-  among-split k zero n =
-      let none : 0 + n ≡ n = omega arith in
-      let here : k + 0 ≡ k = omega arith in
-      let plain : (x : ℕ) → x ≡ 0 + x = λ x. omega arith in
-      rw (none, here) (plain _)
-  among-split k (suc m) n =
-      let more : suc m + n ≡ suc (m + n) = omega arith in
-      let next : k + suc m ≡ suc k + m = omega arith in
-      let rest = among-split (suc k) m n in
-      rw (more, next, rest) (omega arith)
-
   -- the whole count, by one position
   pub total-split : (c i : ℕ) → c + i < 64 * c → countFrom scan levels c c ≡ nz (levelAt scan levels (c + i)) + (countFrom scan levels c (c + i + 1) + nonzerosAmong scan levels c i)
   unfolding nonzerosAmong
   total-split c i h =
       let parts : 64 * c - c ≡ i + suc (64 * c - (c + i + 1)) = omega arith in
-      let split = among-split c i (suc (64 * c - (c + i + 1))) in
+      let split = among-split scan levels c i (suc (64 * c - (c + i + 1))) in
       rw parts (split ∙ rw (add-one (c + i)) (omega arith))
 
 -- ---- the same in the block's terms

@@ -21,9 +21,11 @@ use Rattle.block_checks.proofs.Laws.{refused-room}
 use Rattle.laws.proofs.Tests.{and-left, and-right}
 use Rattle.prices.specs.Book.{Book}
 use Rattle.prices.specs.Checks.{bookRefusal}
+use Rattle.scan.specs.Scan.{Perm}
 use Rattle.steps.proofs.Counting.{among-most}
+use Rattle.steps.proofs.Ordered.{among-split}
 use Rattle.steps.proofs.Plans.{planned-lists}
-use Rattle.steps.specs.Plan.{Planned, Lists, Whole}
+use Rattle.steps.specs.Plan.{Planned, Lists}
 use Rattle.steps.specs.declared.reading.Plan.{Plan}
 use Rattle.weights.specs.Window.{windowOf, baseLen}
 use Rattle.weights.specs.declared.Settings.{Settings}
@@ -31,12 +33,9 @@ use Rattle.weights.specs.declared.Window.{Window}
 use Rattle.greedy.specs.declared.pass.Counts.{Counts}
 use Rattle.greedy.specs.Greedy.{settledAt, settledFrom, greedyLevels, greedyOutcome}
 use Rattle.greedy.specs.Reading.{Fitting, Ready, countFrom}
-use Rattle.greedy.proofs.Passing.{scan-long, within, among-split}
+use Rattle.greedy.proofs.Passing.{scan-long, within}
 
 -- ---- the counts at the window's end
-pub whole-later : {c from from' : ℕ} {scan : List ℕ} {levels : List ℤ} → Whole c from scan levels → from ≤ from' → Whole c from' scan levels
-whole-later w h = record { size = w .size; within = w .within; level = λ k l m. w .level k (le-trans h l) m }
-
 pub total-is : (scan : List ℕ) (levels : List ℤ) (c n : ℕ) {later window : ℕ} → c + n ≤ 64 * c → later ≡ countFrom scan levels c (c + n) → window ≡ nonzerosAmong scan levels c (c + n - c)
     → later + window ≡ countFrom scan levels c c
 total-is scan levels c n {later} {window} h el ew =
@@ -51,8 +50,9 @@ pub counted-few : (scan : List ℕ) (levels : List ℤ) (c : ℕ) {t : ℕ} → 
 counted-few scan levels c e = omega (arith, among-most scan levels c (64 * c - c))
 
 module _ {p : Plan} {scan : List ℕ} {source inverse : List Float} {levels : List ℤ} where
-  pub whole-of : Fitting p → Ready p scan source inverse levels (64 * p .covered) → Whole (p .covered) (p .covered) scan levels
-  whole-of f r = record { size = scan-long f r; within = λ k h. within f r k (rw (scan-long f r) at h); level = λ k l h. r .current k l (rw (scan-long f r) at h) }
+  -- the scan is one of as many levels as there are
+  pub scan-of : Ready p scan source inverse levels (64 * p .covered) → Perm scan (length levels)
+  scan-of r = rw (r .levelled) (r .scanned)
 
   pub ready-less : {upto upto' : ℕ} → upto' ≤ upto → Ready p scan source inverse levels upto → Ready p scan source inverse levels upto'
   ready-less h r =

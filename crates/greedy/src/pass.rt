@@ -10,13 +10,13 @@ ghost use lib.Dec.{T, eqb};
 ghost use lib.ListN.{length, getD, set};
 ghost use Rattle.bias.specs.Level.{isLevel};
 ghost use Rattle.block.specs.Band.{inputAfter};
-ghost use Rattle.block.specs.Block.{Block, covered as coveredBy, nonzerosAmong};
+ghost use Rattle.block.specs.Block.{Block, covered as coveredBy};
 ghost use Rattle.candidates.specs.Candidates.{isCurrent};
 ghost use Rattle.least_cost.specs.Position.{nz};
 ghost use Rattle.prices.specs.Book.{bookOf};
 ghost use Rattle.prices.specs.Checks.{bookRefusal};
-ghost use Rattle.scan.specs.Scan.{levelAt};
-ghost use Rattle.steps.specs.Plan.{Planned, Coded, Lists, Whole};
+ghost use Rattle.scan.specs.Scan.{Perm, levelAt};
+ghost use Rattle.steps.specs.Plan.{Planned, Coded, Lists};
 ghost use Rattle.weights.specs.Window.{windowOf};
 ghost use Rattle.greedy.specs.Greedy.{frontOf, runOf, chosen, settledAt, greedyLevels};
 ghost use Rattle.greedy.specs.Reading.{Fitting, Ready, Windowed, countFrom};
@@ -207,32 +207,17 @@ fn step(
     }
 }
 
-// The nonzero levels from scan position `from` up to `end`.
-fn nonzeros_between(scan: &[u32], levels: &[i32], from: usize, end: usize, covered: usize) -> usize
-    requires { ⌜ Whole covered from (now scan) (now levels) ⌝ }
-    requires { ⌜ (from ≤ end) × (end ≤ length (now scan)) ⌝ }
-    ensures { λ r. ⌜ r ≡ nonzerosAmong (now (scan .entry)) (now (levels .entry)) from (end - from) ⌝ }
-{
-    let mut k = end;
-    let mut count = 0;
-    while from < k {
-        k -= 1;
-        count += steps::nonzero(steps::level_at(scan, levels, k));
-    }
-    count
-}
-
 // The counts at the window's end.
 fn counts_of(scan: &[u32], levels: &[i32], covered: usize, window: usize) -> Counts
-    requires { ⌜ Whole covered covered (now scan) (now levels) ⌝ }
+    requires { ⌜ (Perm (now scan) (length (now levels))) × (length (now levels) ≡ 64 * covered) ⌝ }
     requires { ⌜ (covered + window ≤ 64 * covered) × (covered ≤ 1024) ⌝ }
     ensures { λ r. ⌜ (r .later ≡ countFrom (now (scan .entry)) (now (levels .entry)) covered (covered + window)) × (r .total ≡ countFrom (now (scan .entry)) (now (levels .entry)) covered covered) ⌝ }
 {
     let end = covered + window;
-    let later = steps::tokens::nonzeros_from(scan, levels, end, covered);
+    let later = steps::tokens::nonzeros_from(scan, levels, end);
     Counts {
         later,
-        total: later + nonzeros_between(scan, levels, covered, end, covered),
+        total: later + steps::tokens::nonzeros_between(scan, levels, covered, end),
     }
 }
 

@@ -1,4 +1,4 @@
-use Rattle.greedy.proofs.Settling.{whole-of, SoFar, so-far-none, next-ready, next-below, next-later, so-far-more, so-far-all}
+use Rattle.greedy.proofs.Settling.{scan-of, SoFar, so-far-none, next-ready, next-below, next-later, so-far-more, so-far-all}
 use Rattle.prices.specs.Book.{bookOf}
 use mathlib.Core.Path.{sym, _∙_}
 use native.Mathlib.Omega.{arith}
@@ -17,7 +17,7 @@ counts-of-requires : tie.Need-counts-of-requires Inv-loop μ-loop
 counts-of-requires c κs =
     let start = c .before .before .before .before .before .before .before .before .before in
     let pre = start .pre in
-    (whole-of (pre .1 .1 .0) (pre .1 .1 .1), (pre .1 .1 .0 .window, pre .1 .1 .0 .most))
+    ((scan-of (pre .1 .1 .1), pre .1 .1 .1 .levelled), (pre .1 .1 .0 .window, pre .1 .1 .0 .most))
 
 loop-holds : tie.Need-loop-holds Inv-loop μ-loop
 loop-holds c =
