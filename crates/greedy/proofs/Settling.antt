@@ -33,7 +33,6 @@ use Rattle.weights.specs.declared.Window.{Window}
 use Rattle.greedy.specs.declared.pass.Counts.{Counts}
 use Rattle.greedy.specs.Greedy.{settledAt, settledFrom, greedyLevels, greedyOutcome}
 use Rattle.greedy.specs.Reading.{Fitting, Ready, countFrom}
-use Rattle.greedy.proofs.Passing.{scan-long, within}
 
 -- ---- the counts at the window's end
 pub total-is : (scan : List ℕ) (levels : List ℤ) (c n : ℕ) {later window : ℕ} → c + n ≤ 64 * c → later ≡ countFrom scan levels c (c + n) → window ≡ nonzerosAmong scan levels c (c + n - c)
