@@ -21,6 +21,7 @@ use Rattle.block_checks.proofs.Reading.{whole}
 use Rattle.costs.proofs.Order.{lt-inf}
 use Rattle.prices.specs.Book.{Book}
 use Rattle.scan.specs.Scan.{put}
+use Rattle.scan.specs.Scan.{Perm}
 use Rattle.steps.specs.Plan.{Whole}
 use Rattle.steps.specs.declared.reading.Plan.{Plan}
 use Rattle.beam.specs.Beam.{beamCost, beamCount, beamLevels, windowLength, problem, answered, written}
@@ -37,8 +38,12 @@ module _ {book : Book} {scan : List ℕ} {source inverse : List Float} {levels :
   pub scan-long : length (w .block .scan) ≡ 64 * covered (w .block)
   scan-long = passed-block (w .checked) .scan-long
 
-  pub scan-few : length scan ≤ 65536
-  scan-few = omega (arith, ap length (w .lists .scan-is), scan-long, passed-block (w .checked) .most)
+  pub levels-few : length levels ≤ 65536
+  levels-few = rw (w .lists .levels-is) (omega (arith, passed-block (w .checked) .levels-long, passed-block (w .checked) .most))
+
+  -- the scan is one of as many levels as there are
+  pub scan-of : Perm scan (length levels)
+  scan-of = rw (w .lists .scan-is, w .lists .levels-is, passed-block (w .checked) .levels-long) (passed-block (w .checked) .scanned)
 
   pub window-fits : plan .covered + plan .window .length ≤ length scan
   window-fits = omega (arith, ap length (w .lists .scan-is), window-is (w .checked), w .checked .planned .covered-is, scan-long, passed-block (w .checked) .window .fits)

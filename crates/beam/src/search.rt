@@ -14,6 +14,7 @@ ghost use Rattle.beam_row.specs.Held.{PathsFor};
 ghost use Rattle.block.specs.Block.{Block, covered};
 ghost use Rattle.prices.specs.Book.{bookOf};
 ghost use Rattle.prices.specs.Checks.{bookRefusal};
+ghost use Rattle.scan.specs.Scan.{Perm};
 ghost use Rattle.steps.specs.Plan.{Planned, Coded, Whole};
 ghost use Rattle.beam.specs.Beam.{windowLength, answered, written};
 ghost use Rattle.beam.specs.Held.{paths, Searched, Done};
@@ -33,14 +34,14 @@ fn start_paths(
     requires { ⌜ Coded plan ⌝ }
     requires { ⌜ Whole (plan .covered) (plan .covered + plan .window .length) (now scan) (now levels) ⌝ }
     requires { ⌜ plan .covered + plan .window .length ≤ length (now scan) ⌝ }
-    requires { ⌜ length (now scan) ≤ 65536 ⌝ }
+    requires { ⌜ (Perm (now scan) (length (now levels))) × (length (now levels) ≤ 65536) ⌝ }
     ensures { λ r. ⌜ ((b : Block) → now (scan .entry) ≡ b .scan → now (levels .entry) ≡ b .levels → length (b .scan) ≡ 64 * covered b → Planned b plan
         → PathsFor (paths (bookOf clusters (now (map .entry)) (now (configs .entry)) (now (symbols .entry)) (now (ready .entry))) b (windowLength b)) r) ⌝ }
 {
     let window = plan.window;
     let from = plan.covered + window.length;
-    let past = tokens::nonzeros_from(scan, levels, from, plan.covered);
-    let zero = tokens::tail_cost(
+    let past = tokens::nonzeros_from(scan, levels, from);
+    let tails = tokens::tail_costs(
         clusters,
         map,
         configs,
@@ -51,27 +52,13 @@ fn start_paths(
         levels,
         from,
         past,
-        0,
-    );
-    let one = tokens::tail_cost(
-        clusters,
-        map,
-        configs,
-        symbols,
-        ready,
-        plan,
-        scan,
-        levels,
-        from,
-        past,
-        1,
     );
     let remaining = [past, 0, 0];
-    let tails = [zero, one, 0.0f32, 0.0f32, 0.0f32, 0.0f32];
+    let costs = [tails.first, tails.second, 0.0f32, 0.0f32, 0.0f32, 0.0f32];
     Paths {
         count: 1,
         remaining,
-        costs: tails,
+        costs,
     }
 }
 

@@ -22,6 +22,7 @@ use Rattle.problem.proofs.Problem.{sound}
 use Rattle.prices.specs.Book.{Book}
 use Rattle.scan.specs.Scan.{put}
 use Rattle.block.specs.declared.Answer.the-variants.{Cost, Refused}
+use Rattle.scan.specs.Scan.{Perm}
 use Rattle.steps.specs.Plan.{Planned, Whole}
 use Rattle.steps.specs.declared.reading.Plan.{Plan}
 use Rattle.weights.specs.Window.{windowOf}
@@ -51,8 +52,12 @@ module _ {book : Book} {b : Block} {p : Plan} (K : Checked book b p) where
   pub scan-long : length (b .scan) ≡ 64 * covered b
   scan-long = passed-block K .scan-long
 
-  pub scan-few : length (b .scan) ≤ 65536
-  scan-few = omega (arith, scan-long, passed-block K .most)
+  pub levels-few : length (b .levels) ≤ 65536
+  levels-few = omega (arith, passed-block K .levels-long, passed-block K .most)
+
+  -- the scan is one of as many levels as there are
+  pub scan-of : Perm (b .scan) (length (b .levels))
+  scan-of = rw (passed-block K .levels-long) (passed-block K .scanned)
 
   pub window-some : 0 < windowLength b
   window-some = passed-block K .window .some

@@ -15,6 +15,7 @@ ghost use Rattle.block.specs.Block.{Block, blockOf, covered};
 ghost use Rattle.block.specs.Band.{pastWindow};
 ghost use Rattle.prices.specs.Book.{bookOf};
 ghost use Rattle.prices.specs.Checks.{bookRefusal};
+ghost use Rattle.scan.specs.Scan.{Perm};
 ghost use Rattle.steps.specs.Plan.{Planned, Coded, Whole};
 ghost use Rattle.weights.specs.Window.{windowOf};
 ghost use Rattle.trellis_table.specs.Rows.{windowLength, Checked, TailRow, Kept};
@@ -45,15 +46,16 @@ fn start_row(
     requires { ⌜ Coded plan ⌝ }
     requires { ⌜ Whole (plan .covered) (plan .covered + plan .window .length) (now scan) (now levels) ⌝ }
     requires { ⌜ plan .covered + plan .window .length ≤ length (now scan) ⌝ }
-    requires { ⌜ (length (now scan) ≤ 65536) × (28 ≤ length (now row)) ⌝ }
+    requires { ⌜ (Perm (now scan) (length (now levels))) × (length (now levels) ≤ 65536) ⌝ }
+    requires { ⌜ 28 ≤ length (now row) ⌝ }
     ensures { λ r. ⌜ length (now (row .exit)) ≡ length (now (row .entry)) ⌝ }
     ensures { λ r. ⌜ ((b : Block) → now (scan .entry) ≡ b .scan → now (levels .entry) ≡ b .levels → length (b .scan) ≡ 64 * covered b → Planned b plan
         → (r ≡ pastWindow (windowOf (covered b)) b) × TailRow (bookOf clusters (now (map .entry)) (now (configs .entry)) (now (symbols .entry)) (now (ready .entry))) b r (now (row .exit))) ⌝ }
 {
     let window = plan.window;
     let from = plan.covered + window.length;
-    let past = tokens::nonzeros_from(scan, levels, from, plan.covered);
-    row[0] = tokens::tail_cost(
+    let past = tokens::nonzeros_from(scan, levels, from);
+    let tails = tokens::tail_costs(
         clusters,
         map,
         configs,
@@ -64,21 +66,9 @@ fn start_row(
         levels,
         from,
         past,
-        0,
     );
-    row[1] = tokens::tail_cost(
-        clusters,
-        map,
-        configs,
-        symbols,
-        ready,
-        plan,
-        scan,
-        levels,
-        from,
-        past,
-        1,
-    );
+    row[0] = tails.first;
+    row[1] = tails.second;
     past
 }
 

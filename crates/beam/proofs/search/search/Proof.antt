@@ -1,4 +1,4 @@
-use Rattle.beam.proofs.Whole.{scan-long, scan-few, window-fits, whole-past, countable, done-of, done-answer, longer}
+use Rattle.beam.proofs.Whole.{scan-long, levels-few, scan-of, window-fits, whole-past, countable, done-of, done-answer, longer}
 use borrow.Author.Needs.{needs}
 use Rattle.beam.proofs.search.search.Statement.{statement}
 use Rattle.beam.proofs.search.search.Tie as tie
@@ -12,7 +12,7 @@ use Rattle.beam.proofs.search.write_found.Reads as write-found-reads
 start-paths-requires : tie.Need-start-paths-requires
 start-paths-requires c κs =
     let w = c .before .before .before .before .before .before .before .before .before .pre .0 in
-    (w .checked .book-passed, (w .checked .coded, (whole-past w, (window-fits w, scan-few w))))
+    (w .checked .book-passed, (w .checked .coded, (whole-past w, (window-fits w, (scan-of w, levels-few w)))))
 
 take-positions-requires : tie.Need-take-positions-requires
 take-positions-requires c κs =

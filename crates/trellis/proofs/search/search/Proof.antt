@@ -3,7 +3,7 @@ use mathlib.Core.List.{List}
 use Prim.Native.Nat.{ℕ, _≤_}
 use lib.Ieee.{Float}
 use Rattle.trellis_table.specs.Rows.{RowAt}
-use Rattle.trellis.proofs.Whole.{whole-past, window-fits, scan-few, scan-long, window-some, still-long, live-stands, live-room, from-first}
+use Rattle.trellis.proofs.Whole.{whole-past, window-fits, levels-few, scan-of, scan-long, window-some, still-long, live-stands, live-room, from-first}
 use borrow.Author.Needs.{needs}
 use Rattle.trellis.proofs.search.search.Statement.{statement}
 use Rattle.trellis.proofs.search.search.Tie as tie
@@ -18,7 +18,7 @@ start-row-requires : tie.Need-start-row-requires
 start-row-requires c κs =
     let pre = c .before .before .before .before .before .before .before .before .before .before .before .pre in
     let K = pre .0 in
-    (K .book-passed, (K .coded, (whole-past K, (window-fits K, (scan-few K, pre .1 .0)))))
+    (K .book-passed, (K .coded, (whole-past K, (window-fits K, ((scan-of K, levels-few K), pre .1 .0)))))
 
 take-positions-requires : tie.Need-take-positions-requires
 take-positions-requires c κs =
