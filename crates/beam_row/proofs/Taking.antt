@@ -6,10 +6,9 @@ use lib.ListN.{length, getD}
 use borrow.Author.Tests.{eq-eqb, ne-eqb}
 use Rattle.least_cost.specs.Position.{Position}
 use Rattle.prices.specs.Book.{Book}
-use Rattle.steps.specs.declared.reading.Spot.{Spot}
 use Rattle.beam_row.specs.Path.{Path, ways}
 use Rattle.beam_row.specs.Step.{countsNamed, mergedAt, kept, extended, stepped}
-use Rattle.beam_row.specs.Held.{PathsFor, Stands, Remembered, Takeable, Taken}
+use Rattle.beam_row.specs.Held.{PathsFor, Spot, Stands, Remembered, Takeable, Taken}
 use Rattle.beam_row.specs.Entries.{KeptIs}
 use Rattle.beam_row.specs.declared.Paths.{Paths}
 use Rattle.beam_row.specs.declared.Step.{Step}
