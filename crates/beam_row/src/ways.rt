@@ -30,7 +30,7 @@ fn try_way(
     level: i32,
     distortion: f32,
     tail: f32,
-    choice: u8,
+    choice: u32,
     entry: Entry,
 ) -> Entry
     requires { ⌜ bookRefusal (bookOf clusters (now map) (now configs) (now symbols) (now ready)) ≡ 0 ⌝ }
@@ -97,7 +97,7 @@ fn try_levels(
                 level,
                 distortion[i],
                 tail,
-                (16 * j + i) as u8,
+                (16 * j + i) as u32,
                 best,
             );
         }
@@ -258,7 +258,7 @@ pub(crate) fn extend_path(
         level,
         distortion,
     );
-    let choice = (16 * j) as u8;
+    let choice = (16 * j) as u32;
     Entry {
         remaining,
         first: Best {
