@@ -8,11 +8,11 @@ use lib.Dec.{T}
 use lib.ListN.{length, getD}
 use lib.Ieee.{Float}
 use lib.Ieee.Scale.{finite}
-use Rattle.beam_row.specs.Held.{PathsFor, Named, Stands, Takeable, Taken}
+use Rattle.beam_row.specs.Held.{PathsFor, Named, Spot, spotOf, Stands, Takeable, Taken}
 use Rattle.beam_row.specs.Step.{stepped}
 use Rattle.beam_row.specs.declared.Paths.{Paths}
 use Rattle.beam_row.specs.declared.Step.{Step}
-use Rattle.block.specs.Block.{Block, covered, inputAt}
+use Rattle.block.specs.Block.{Block, covered, inputAt, ideal, candidatesAt}
 use Rattle.block.specs.Band.{positionAt, positionsFrom}
 use Rattle.block_checks.specs.Passed.{Passed}
 use Rattle.block_checks.proofs.Laws.{passed}
@@ -21,10 +21,10 @@ use Rattle.candidates.specs.Candidates.{isCurrent}
 use Rattle.costs.specs.Cost.{cost}
 use Rattle.prices.specs.Book.{Book}
 use Rattle.steps.specs.Place.{placeOf, localAt}
-use Rattle.steps.specs.Plan.{Planned, Lists, Readable, Spotted, Usable}
+use Rattle.steps.specs.Plan.{Planned, Lists, Readable, Offered, listed, Usable}
 use Rattle.steps.specs.declared.Place.{Place}
 use Rattle.steps.specs.declared.reading.Plan.{Plan}
-use Rattle.steps.specs.declared.reading.Spot.{Spot}
+use Rattle.steps.specs.declared.reading.Offer.{Offer}
 use Rattle.steps.proofs.Local.{local-is}
 use Rattle.weights.specs.Window.{windowOf, baseLen}
 use Rattle.weights.specs.declared.Window.{Window}
@@ -38,6 +38,11 @@ base-small c = omega arith
 
 inner : (c w i : ℕ) → i < w → c + w ≤ 64 * c → c + i < 64 * c
 inner c w i h f = omega arith
+
+-- what stands at window position i of a block
+pub record Spotted (b : Block) (log2 i : ℕ) (s : Spot) : Type 0 where
+  pub place-is : s .place ≡ placeOf b log2 i
+  pub listed-is : listed (s .candidates) ≡ candidatesAt (windowOf (covered b)) b i
 
 -- the positions of a block, whatever is asked of them
 module _ {book : Book} {b : Block} {p : Plan} (K : Checked book b p) where
@@ -144,5 +149,9 @@ module _ {book : Book} {scan : List ℕ} {source inverse : List Float} {levels :
   pub readable-now : (i : ℕ) → i < windowLength (w .block) → Readable scan source inverse levels (plan .scale) (plan .covered + i)
   readable-now i h = let L = w .lists in rw (L .scan-is, L .source-is, L .inverse-is, L .levels-is) (readable-here (w .checked) i h)
 
-  pub spotted-now : {i : ℕ} {spot : Spot} → ((b : Block) → Lists b scan source inverse levels → Planned b plan → Spotted b (plan .log2) i spot) → Spotted (w .block) (plan .log2) i spot
-  spotted-now S = S (w .block) (w .lists) (w .checked .planned)
+  -- a position by what it offers and what prices a level there
+  pub spotted-now : {i : ℕ} {offer : Offer} {array : List ℤ} {x : Place} {level : ℤ} → ((b : Block) → Lists b scan source inverse levels → Planned b plan → Offered b i offer array) → level ≡ offer .level
+      → ((b : Block) → Planned b plan → offer .ideal ≡ ideal b i → level ≡ inputAt b (covered b + i) → x ≡ placeOf b (plan .log2) i) → Spotted (w .block) (plan .log2) i (spotOf x (offer .count) array)
+  spotted-now O back placed =
+      let o = O (w .block) (w .lists) (w .checked .planned) in
+      record { place-is = placed (w .block) (w .checked .planned) (o .ideal-is) (back ∙ o .level-is); listed-is = o .listed-is }

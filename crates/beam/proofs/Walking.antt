@@ -20,7 +20,7 @@ use Rattle.block.specs.Block.{Block, withLevels, covered, inputAt, ideal, candi
 use Rattle.block.specs.Band.{positionAt}
 use Rattle.block.specs.Cost.{firstPrev}
 use Rattle.block_checks.specs.Passed.{Passed}
-use Rattle.candidates.specs.Candidates.{candidatesOf}
+use Rattle.candidates.specs.Candidates.{candidatesOf, inArray}
 use Rattle.least_cost.specs.Position.{nz}
 use Rattle.least_cost.proofs.Trial.{nz-le}
 use Rattle.scan.specs.Scan.{Perm, levelAt, put}
@@ -141,37 +141,37 @@ module _ {scan : List ℕ} {source inverse : List Float} {levels₀ : List ℤ} 
     way-levels = from-here (levelsOf (w .book) (w .block) first count) i (W .rest ∙ named .levels-are)
 
     -- ---- one turn of the loop
-    module _ {offer : Offer} (S : (b' : Block) → Lists b' scan source inverse levels → Planned b' plan → Offered b' i offer) (U : Usable (offer .candidates)) {n : ℕ} (x : n ≡ getD choices (6 * i + (2 * path + prev)) 0) where
-      offered : Offered (withLevels (w .block) levels) i offer
+    module _ {offer : Offer} {array : List ℤ} (S : (b' : Block) → Lists b' scan source inverse levels → Planned b' plan → Offered b' i offer array) (U : Usable (inArray (offer .count) array)) {n : ℕ} (x : n ≡ getD choices (6 * i + (2 * path + prev)) 0) where
+      offered : Offered (withLevels (w .block) levels) i offer array
       offered =
           S (withLevels (w .block) levels)
           (record { scan-is = w .lists .scan-is; source-is = w .lists .source-is; inverse-is = w .lists .inverse-is; levels-is = refl })
           (planned-lists (w .block) (w .checked .planned) (w .block .scan) (w .block .source) (w .block .inverse) levels)
 
-      offer-listed : listed (offer .candidates) ≡ candidatesAt (windowOf (covered (w .block))) (w .block) i
+      offer-listed : listed (inArray (offer .count) array) ≡ candidatesAt (windowOf (covered (w .block))) (w .block) i
       unfolding candidatesAt inputAt covered ideal
       offer-listed =
           offered .listed-is
           ∙ ap (λ (z : ℤ). candidatesOf (ideal (w .block) i) z (ltb i (windowOf (covered (w .block)) .restoring)))
           (ap (λ (s : List ℕ). levelAt s levels (covered (w .block) + i)) (sym (w .lists .scan-is)) ∙ level-kept)
 
-      pub index-below : n % 16 < offer .candidates .count
+      pub index-below : n % 16 < offer .count
       unfolding positionAt
       index-below =
-          let k : n % 16 < length (listed (offer .candidates)) = rw (x, offer-listed) (named .level) in
-          omega (arith, length-take (offer .candidates .count) (offer .candidates .levels))
+          let k : n % 16 < length (listed (inArray (offer .count) array)) = rw (x, offer-listed) (named .level) in
+          omega (arith, length-take (offer .count) array)
 
-      level-named : getD (offer .candidates .levels) (n % 16) (pos 0) ≡ way .level
+      level-named : getD array (n % 16) (pos 0) ≡ way .level
       unfolding way wayOf positionAt
       level-named =
-          sym (getD-take (offer .candidates .count) (offer .candidates .levels) (n % 16) (pos 0) index-below)
+          sym (getD-take (offer .count) array (n % 16) (pos 0) index-below)
           ∙ ap₂ (λ (c : List ℤ) (m : ℕ). getD c (m % 16) (pos 0)) offer-listed x
 
-      level-handed : toZ w32 (ofZ w32 (getD (offer .candidates .levels) (n % 16) (pos 0))) ≡ way .level
+      level-handed : toZ w32 (ofZ w32 (getD array (n % 16) (pos 0))) ≡ way .level
       level-handed = level-back _ (U .levels (n % 16) index-below) ∙ level-named
 
-      pub walked-on : {m : ℕ} {levels' : List ℤ} {k : ℕ} → m ≡ nz (toZ w32 (ofZ w32 (getD (offer .candidates .levels) (n % 16) (pos 0)))) → k ≡ plan .covered + i
-          → levels' ≡ set levels (getD scan k 0) (toZ w32 (ofZ w32 (getD (offer .candidates .levels) (n % 16) (pos 0)))) → WalkedTo w (i + 1) levels' (n / 16) m
+      pub walked-on : {m : ℕ} {levels' : List ℤ} {k : ℕ} → m ≡ nz (toZ w32 (ofZ w32 (getD array (n % 16) (pos 0)))) → k ≡ plan .covered + i
+          → levels' ≡ set levels (getD scan k 0) (toZ w32 (ofZ w32 (getD array (n % 16) (pos 0)))) → WalkedTo w (i + 1) levels' (n / 16) m
       unfolding way wayOf
       walked-on {m} {levels'} {k} e f g =
           let place : k ≡ covered (w .block) + i = f ∙ ap (λ (c : ℕ). c + i) (w .checked .planned .covered-is) in

@@ -44,8 +44,20 @@ fn take_position(
     ensures { λ r. ⌜ ((w : Searched (bookOf clusters (now (map .entry)) (now (configs .entry)) (now (symbols .entry)) (now (ready .entry))) (now (scan .entry)) (now (source .entry)) (now («inv_qm» .entry)) (now (levels .entry)) plan)
         → Stepped (bookOf clusters (now (map .entry)) (now (configs .entry)) (now (symbols .entry)) (now (ready .entry))) (w .block) i (now (choices .entry)) (now (choices .exit)) r) ⌝ }
 {
-    let spot = plan.spot(scan, source, inv_qm, levels, i);
-    let step = beam_row::take_step(clusters, map, configs, symbols, ready, spot, behind);
+    let mut offered = [0i32; 5];
+    let offer = plan.offer(scan, source, inv_qm, levels, i, &mut offered);
+    let place = plan.place(i, offer.ideal, offer.level);
+    let step = beam_row::take_step(
+        clusters,
+        map,
+        configs,
+        symbols,
+        ready,
+        place,
+        &offered,
+        offer.count,
+        behind,
+    );
     let bytes = step.choices;
     store(choices, BEAM_STRIDE * i, bytes);
     step.paths

@@ -37,11 +37,11 @@ pub(crate) fn write_levels(
     let covered = plan.covered;
     let mut prev = tokens::first_prev(covered, count);
     let mut path = first;
+    let mut offered = [0i32; 5];
     for i in 0..window.length {
-        let offer = plan.offer(scan, source, inv_qm, levels, i);
-        let candidates = offer.candidates;
+        plan.offer(scan, source, inv_qm, levels, i, &mut offered);
         let choice = choice_at(choices, i, path, prev);
-        let level = candidates.levels[choice % 16];
+        let level = offered[choice % 16];
         steps::write_level(scan, levels, covered + i, level);
         prev = steps::nonzero(level);
         path = choice / 16;

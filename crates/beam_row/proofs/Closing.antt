@@ -1,7 +1,7 @@
 -- The paths kept, as the step's arrays. Assumes nothing.
 use mathlib.Core.Path.{_≡_, refl}
 use mathlib.Core.List.{List, [], _∷_}
-use Prim.Native.Nat.{ℕ, zero, suc, _+_, _*_, _≤_, _<_}
+use Prim.Native.Nat.{ℕ, zero, suc, _+_, _*_, _%_, _≤_, _<_}
 use native.Mathlib.Omega.{arith}
 use lib.Dec.{T}
 use lib.ListN.{length, getD}
@@ -20,7 +20,14 @@ abbrev pub costs : Kept → List Float
 costs k = k .one .first .cost ∷ k .one .second .cost ∷ k .two .first .cost ∷ k .two .second .cost ∷ k .three .first .cost ∷ k .three .second .cost ∷ []
 
 abbrev pub bytes : Kept → List ℕ
-bytes k = k .one .first .choice ∷ k .one .second .choice ∷ k .two .first .choice ∷ k .two .second .choice ∷ k .three .first .choice ∷ k .three .second .choice ∷ []
+bytes k =
+    k .one .first .choice % 256 ∷ k .one .second .choice % 256 ∷ k .two .first .choice % 256 ∷ k .two .second .choice % 256 ∷ k .three .first .choice % 256 ∷ k .three .second .choice % 256 ∷ []
+
+-- a choice that names one of three paths is a byte
+named-byte : {q : Position} {xs : List Path} {p b : ℕ} {y : Path} → length xs ≤ 3 → Named q xs p b y → Named q xs p (b % 256) y
+named-byte {q} {xs} {p} {b} {y} few w =
+    let same : b % 256 ≡ b = omega (arith, few, w .path) in
+    rw same w
 
 module _ {q : Position} {xs ys : List Path} {k : Kept} (w : KeptIs q xs ys k) where
   remaining-at : (j : ℕ) → j < length ys → getD (remainings k) j 0 ≡ getD ys j noPath .remaining
@@ -41,17 +48,17 @@ module _ {q : Position} {xs ys : List Path} {k : Kept} (w : KeptIs q xs ys k) wh
   cost-at (suc (suc zero)) (suc (suc p)) h l = absurd (omega arith)
   cost-at (suc (suc (suc j))) p h l = absurd (omega (arith, w .few))
 
-  byte-at : (j p : ℕ) → j < length ys → p ≤ 1 → T (finite (getD ys j noPath .cost p)) → Named q xs p (getD (bytes k) (2 * j + p) 0) (getD ys j noPath)
-  byte-at zero zero h l t = w .one h .first-by t
-  byte-at zero (suc zero) h l t = w .one h .second-by t
-  byte-at zero (suc (suc p)) h l t = absurd (omega arith)
-  byte-at (suc zero) zero h l t = w .two h .first-by t
-  byte-at (suc zero) (suc zero) h l t = w .two h .second-by t
-  byte-at (suc zero) (suc (suc p)) h l t = absurd (omega arith)
-  byte-at (suc (suc zero)) zero h l t = w .three h .first-by t
-  byte-at (suc (suc zero)) (suc zero) h l t = w .three h .second-by t
-  byte-at (suc (suc zero)) (suc (suc p)) h l t = absurd (omega arith)
-  byte-at (suc (suc (suc j))) p h l t = absurd (omega (arith, w .few))
+  byte-at : length xs ≤ 3 → (j p : ℕ) → j < length ys → p ≤ 1 → T (finite (getD ys j noPath .cost p)) → Named q xs p (getD (bytes k) (2 * j + p) 0) (getD ys j noPath)
+  byte-at few zero zero h l t = named-byte few (w .one h .first-by t)
+  byte-at few zero (suc zero) h l t = named-byte few (w .one h .second-by t)
+  byte-at few zero (suc (suc p)) h l t = absurd (omega arith)
+  byte-at few (suc zero) zero h l t = named-byte few (w .two h .first-by t)
+  byte-at few (suc zero) (suc zero) h l t = named-byte few (w .two h .second-by t)
+  byte-at few (suc zero) (suc (suc p)) h l t = absurd (omega arith)
+  byte-at few (suc (suc zero)) zero h l t = named-byte few (w .three h .first-by t)
+  byte-at few (suc (suc zero)) (suc zero) h l t = named-byte few (w .three h .second-by t)
+  byte-at few (suc (suc zero)) (suc (suc p)) h l t = absurd (omega arith)
+  byte-at few (suc (suc (suc j))) p h l t = absurd (omega (arith, w .few))
 
   pub paths-closed : PathsFor ys (record { count = k .count; remaining = remainings k; costs = costs k })
   paths-closed =
@@ -64,5 +71,5 @@ module _ {q : Position} {xs ys : List Path} {k : Kept} (w : KeptIs q xs ys k) wh
         cost-is = cost-at;
       }
 
-  pub bytes-closed : Remembered q xs ys (bytes k)
-  bytes-closed = record { six = refl; each = byte-at }
+  pub bytes-closed : length xs ≤ 3 → Remembered q xs ys (bytes k)
+  bytes-closed few = record { six = refl; each = byte-at few }

@@ -16,10 +16,9 @@ use Rattle.least_cost.proofs.Trial.{nz-le}
 use Rattle.prices.specs.Book.{Book}
 use Rattle.steps.specs.Place.{localAt}
 use Rattle.steps.specs.Plan.{listed}
-use Rattle.steps.specs.declared.reading.Spot.{Spot}
 use Rattle.beam_row.specs.Path.{Path, Way, wayRemaining, ways}
 use Rattle.beam_row.specs.Step.{has, naming, countsNamed, merged, mergedAt, key, insert, sorting, kept, extended, stepped}
-use Rattle.beam_row.specs.Held.{noPath, PathsFor, Stands, Takeable}
+use Rattle.beam_row.specs.Held.{noPath, PathsFor, Spot, Stands, Takeable}
 use Rattle.beam_row.specs.Entries.{named}
 use Rattle.beam_row.specs.declared.Paths.{Paths}
 use Rattle.beam_row.specs.declared.counts.Counts.{Counts}

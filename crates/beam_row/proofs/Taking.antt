@@ -1,15 +1,15 @@
 -- The step, by the number of candidates. Assumes nothing.
 use mathlib.Core.Path.{_≡_, sym, _∙_, subst⁻¹}
 use mathlib.Core.List.{List, []}
+use Prim.Native.Nat.{_≤_}
 use lib.IntN.{pos}
 use lib.ListN.{length, getD}
 use borrow.Author.Tests.{eq-eqb, ne-eqb}
 use Rattle.least_cost.specs.Position.{Position}
 use Rattle.prices.specs.Book.{Book}
-use Rattle.steps.specs.declared.reading.Spot.{Spot}
 use Rattle.beam_row.specs.Path.{Path, ways}
 use Rattle.beam_row.specs.Step.{countsNamed, mergedAt, kept, extended, stepped}
-use Rattle.beam_row.specs.Held.{PathsFor, Stands, Remembered, Takeable, Taken}
+use Rattle.beam_row.specs.Held.{PathsFor, Spot, Stands, Remembered, Takeable, Taken}
 use Rattle.beam_row.specs.Entries.{KeptIs}
 use Rattle.beam_row.specs.declared.Paths.{Paths}
 use Rattle.beam_row.specs.declared.Step.{Step}
@@ -25,14 +25,17 @@ stepped-several : (q : Position) (xs : List Path) → (length (q .candidates) �
 unfolding stepped
 stepped-several q xs e = rw (ne-eqb (length (q .candidates)) 1 e)
 
+few-paths : {xs : List Path} {paths : Paths} → PathsFor xs paths → length xs ≤ 3
+few-paths W = rw (W .count-is) (W .few)
+
 module _ {book : Book} {s : Spot} {paths : Paths} {k : Kept} {r : Step} (K : Takeable book s paths)
-    (closed : (q : Position) (xs ys : List Path) → KeptIs q xs ys k → (PathsFor ys (r .paths)) × Remembered q xs ys (r .choices)) where
+    (closed : (q : Position) (xs ys : List Path) → length xs ≤ 3 → KeptIs q xs ys k → (PathsFor ys (r .paths)) × Remembered q xs ys (r .choices)) where
   taken : ((q : Position) (xs : List Path) → Stands book s q → PathsFor xs paths → KeptIs q xs (stepped q xs) k) → Taken book s paths r
   taken is =
-      let stands : (q : Position) (xs : List Path) → Stands book s q → PathsFor xs paths → PathsFor (stepped q xs) (r .paths) = λ q xs S W. closed q xs (stepped q xs) (is q xs S W) .0 in
+      let stands : (q : Position) (xs : List Path) → Stands book s q → PathsFor xs paths → PathsFor (stepped q xs) (r .paths) = λ q xs S W. closed q xs (stepped q xs) (few-paths W) (is q xs S W) .0 in
       record {
         stands = stands;
-        remembered = λ q xs S W. closed q xs (stepped q xs) (is q xs S W) .1;
+        remembered = λ q xs S W. closed q xs (stepped q xs) (few-paths W) (is q xs S W) .1;
         upto = counts-next-upto (K .few) (K .three) (K .six) stands;
       }
 

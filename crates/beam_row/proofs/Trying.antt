@@ -17,12 +17,11 @@ use Rattle.least_cost.proofs.Trial.{nz-le}
 use Rattle.prices.specs.Book.{Book}
 use Rattle.steps.specs.Place.{contextAt, localIn, localAt, distortionAt}
 use Rattle.steps.specs.Plan.{listed, Usable, Each}
-use Rattle.steps.specs.declared.reading.Spot.{Spot}
 use Rattle.steps.proofs.Listed.{listed-length, usable-listed}
 use Rattle.beam_row.specs.Path.{Path, Way, wayRemaining, wayCost, wayLevels, waysOf, ways}
 use Rattle.beam_row.specs.Step.{merged}
-use Rattle.beam_row.specs.Held.{noPath, PathsFor, Stands, Takeable, Named}
-use Rattle.beam_row.specs.Entries.{spotOf, Priced, wayAt, taking, tried, alone, PathIs, Leads, BothOf, EntryIs}
+use Rattle.beam_row.specs.Held.{noPath, PathsFor, Spot, Stands, Takeable, Named}
+use Rattle.beam_row.specs.Entries.{Priced, wayAt, taking, tried, alone, PathIs, Leads, BothOf, EntryIs}
 use Rattle.beam_row.specs.declared.Paths.{Paths}
 use Rattle.beam_row.specs.declared.entry.Entry.{Entry}
 use Rattle.beam_row.proofs.Growing.{mem-at}
@@ -125,19 +124,11 @@ module _ {book : Book} {s : Spot} {j z i m : ℕ} {tail : Float} {e f : Entry} (
         more = λ q xs ws S L w. rw t (way-other xs j S U (L .here) I M refl (λ r. h (omega (arith, r, L .remaining-is))) w);
       }
 
--- ---- the level that is there plays no part
-pub stands-of : {book : Book} {s : Spot} {q : Position} → Stands book s q → Stands book (spotOf (s .place) (s .candidates .count) (s .candidates .levels)) q
-stands-of S = record { candidates-are = S .candidates-are; price-is = S .price-is }
-
-pub takeable-of : {book : Book} {s : Spot} {paths : Paths} → Takeable book s paths → Takeable book (spotOf (s .place) (s .candidates .count) (s .candidates .levels)) paths
-takeable-of K =
-    record { priced = K .priced; usable = K .usable; covers = K .covers; coded = K .coded; offset = K .offset; few = K .few; three = K .three; six = K .six; left = K .left }
-
-pub priced-of : {book : Book} {s : Spot} {paths : Paths} {distortion : List Float} → Takeable book s paths → length distortion ≡ 5 → Each (distortionAt (s .place)) (listed (s .candidates)) distortion
-    → Priced book (s .place) (s .candidates .count) (s .candidates .levels) distortion
-priced-of K five each = record { priced = K .priced; usable = K .usable; five = five; each = each }
-
 -- ---- what the code needs
+pub priced-of : {book : Book} {s : Spot} {paths : Paths} {distortion : List Float} → Takeable book s paths → Each (distortionAt (s .place)) (listed (s .candidates)) distortion
+    → Priced book (s .place) (s .candidates .count) (s .candidates .levels) distortion
+priced-of K each = record { priced = K .priced; usable = K .usable; each = each }
+
 module _ {book : Book} {s : Spot} {paths : Paths} (K : Takeable book s paths) {j : ℕ} (J : j < paths .count) where
   pub count-few : getD (paths .remaining) j 0 < 65536
   count-few = omega (arith, K .left j J, covered-most (K .covers))

@@ -8,14 +8,14 @@ use lib.ListN.{length, getD, take}
 use lib.Dec.{T}
 use lib.Ieee.{Float, inf, lt, add, binary32}
 use lib.Ieee.Scale.{finite}
+use Rattle.candidates.specs.Candidates.{inArray}
 use Rattle.least_cost.specs.Position.{Position}
 use Rattle.least_cost.specs.Search.{least, holder}
 use Rattle.prices.specs.Book.{Book}
 use Rattle.prices.specs.Checks.{bookRefusal}
 use Rattle.steps.specs.Place.{distortionAt, contextAt, localIn}
-use Rattle.steps.specs.Plan.{Usable, Each}
+use Rattle.steps.specs.Plan.{listed, Usable, Each}
 use Rattle.steps.specs.declared.Place.{Place}
-use Rattle.steps.specs.declared.reading.Spot.{Spot}
 use Rattle.beam_row.specs.Path.{Path, Way, wayRemaining, wayCost, wayLevels, noWay}
 use Rattle.beam_row.specs.Step.{reaching}
 use Rattle.beam_row.specs.Held.{noPath, wayOf, Named}
@@ -33,10 +33,6 @@ named c = take (c .length) (c .counts)
 unfoldable pub considered : Best → Float → ℕ → Best
 considered b x choice = cond (lt x (b .cost)) (record { cost = x; choice = choice }) b
 
--- a place and its candidates; the level that is there plays no part
-abbrev pub spotOf : Place → ℕ → List ℤ → Spot
-spotOf x count levels = record { place = x; candidates = record { count = count; levels = levels }; level = pos 0 }
-
 -- the paths from their parts
 abbrev pub gathered : ℕ → List ℕ → List Float → Paths
 gathered count remaining costs = record { count = count; remaining = remaining; costs = costs }
@@ -44,9 +40,8 @@ gathered count remaining costs = record { count = count; remaining = remaining; 
 -- what prices the candidates: a book that passed, levels that have a bias, and the distortion of each
 pub record Priced (book : Book) (x : Place) (count : ℕ) (levels : List ℤ) (distortion : List Float) : Type 0 where
   pub priced : bookRefusal book ≡ 0
-  pub usable : Usable (record { count = count; levels = levels })
-  pub five : length distortion ≡ 5
-  pub each : Each (distortionAt x) (take count levels) distortion
+  pub usable : Usable (inArray count levels)
+  pub each : Each (distortionAt x) (listed (inArray count levels)) distortion
 
 -- path j has this count, and these costs for `prev` 0 and 1
 pub record PathIs (xs : List Path) (j remaining : ℕ) (first second : Float) : Type 0 where

@@ -8,12 +8,14 @@ use lib.Dec.{T}
 use lib.Ieee.{nan}
 use lib.Ieee.Scale.{finite}
 use Rattle.ac_context.specs.Contexts.{Covered}
+use Rattle.candidates.specs.Candidates.{inArray}
+use Rattle.candidates.specs.declared.Candidates.{Candidates}
 use Rattle.least_cost.specs.Position.{Position}
 use Rattle.prices.specs.Book.{Book}
 use Rattle.prices.specs.Checks.{bookRefusal}
 use Rattle.steps.specs.Place.{localAt}
 use Rattle.steps.specs.Plan.{listed, Usable}
-use Rattle.steps.specs.declared.reading.Spot.{Spot}
+use Rattle.steps.specs.declared.Place.{Place}
 use Rattle.beam_row.specs.Path.{Path, Way, wayRemaining, wayCost, wayLevels, noWay}
 use Rattle.beam_row.specs.Step.{stepped}
 use Rattle.beam_row.specs.declared.Paths.{Paths}
@@ -48,6 +50,14 @@ pub record Named (q : Position) (xs : List Path) (p b : ℕ) (y : Path) : Type 0
 pub record Remembered (q : Position) (xs ys : List Path) (choices : List ℕ) : Type 0 where
   pub six : length choices ≡ 6
   pub each : (j p : ℕ) → j < length ys → p ≤ 1 → T (finite (getD ys j noPath .cost p)) → Named q xs p (getD choices (2 * j + p) 0) (getD ys j noPath)
+
+-- a position: what prices a level there, and its candidates
+pub record Spot : Type 0 where
+  pub place : Place
+  pub candidates : Candidates
+
+abbrev pub spotOf : Place → ℕ → List ℤ → Spot
+spotOf x count levels = record { place = x; candidates = inArray count levels }
 
 -- q is the position that the spot and the book stand for
 pub record Stands (book : Book) (s : Spot) (q : Position) : Type 0 where

@@ -2,10 +2,10 @@
 ghost use mathlib.Core.Path.{_≡_};
 ghost use Rattle.beam_row.specs.Entries.{considered};
 
-// A cost, and the way that has it: the path behind the position, times 16, and the index of the candidate.
+// A cost, and the way that has it: the path behind the position, times 16, and the index of the candidate. As wide as the cost, so that there is no padding to copy.
 pub struct Best {
     pub cost: f32,
-    pub choice: u8,
+    pub choice: u32,
 }
 
 // A path: its count, and its cost for `prev` 0 and 1.
@@ -16,7 +16,7 @@ pub struct Entry {
 }
 
 impl Best {
-    pub(crate) fn consider(self, cost: f32, choice: u8) -> Best
+    pub(crate) fn consider(self, cost: f32, choice: u32) -> Best
         ensures { λ r. ⌜ r ≡ considered self cost choice ⌝ }
     {
         if cost < self.cost {

@@ -6,8 +6,8 @@ use crate::entry::Entry;
 ghost use mathlib.Core.Path.{_≡_};
 ghost use mathlib.Core.List.{List, [], _∷_, _++_};
 ghost use mathlib.Core.Bool.{cond, _||_};
-ghost use Prim.Native.Nat.{suc, _+_, _<_, _≤_};
-ghost use lib.ListN.{take};
+ghost use Prim.Native.Nat.{suc, _+_, _%_, _<_, _≤_};
+ghost use lib.ListN.{length, take};
 ghost use lib.Dec.{leb};
 ghost use lib.Ieee.{lt};
 ghost use Rattle.least_cost.specs.Position.{Position};
@@ -129,7 +129,7 @@ impl Kept {
 
     pub(crate) fn step(self) -> Step
         requires { ⌜ self .count ≤ 3 ⌝ }
-        ensures { λ r. ⌜ ((q : Position) (xs ys : List Path) → KeptIs q xs ys self → (PathsFor ys (r .paths)) × Remembered q xs ys (r .choices)) ⌝ }
+        ensures { λ r. ⌜ ((q : Position) (xs ys : List Path) → length xs ≤ 3 → KeptIs q xs ys self → (PathsFor ys (r .paths)) × Remembered q xs ys (r .choices)) ⌝ }
     {
         let one = self.one;
         let two = self.two;
@@ -154,15 +154,22 @@ impl Kept {
                 ],
             },
             choices: [
-                one_first.choice,
-                one_second.choice,
-                two_first.choice,
-                two_second.choice,
-                three_first.choice,
-                three_second.choice,
+                byte_of(one_first.choice),
+                byte_of(one_second.choice),
+                byte_of(two_first.choice),
+                byte_of(two_second.choice),
+                byte_of(three_first.choice),
+                byte_of(three_second.choice),
             ],
         }
     }
+}
+
+// A choice that names one of three paths is below 256.
+fn byte_of(choice: u32) -> u8
+    ensures { λ r. ⌜ r ≡ choice % 256 ⌝ }
+{
+    (choice % 256) as u8
 }
 
 fn more(count: usize) -> usize

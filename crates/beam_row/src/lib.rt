@@ -5,7 +5,7 @@ mod kept;
 mod ways;
 
 use crate::kept::Kept;
-use steps::reading::Spot;
+use steps::Place;
 ghost use mathlib.Core.Path.{_≡_};
 ghost use mathlib.Core.List.{List, []};
 ghost use Prim.Native.Nat.{_≤_};
@@ -15,7 +15,7 @@ ghost use Rattle.least_cost.specs.Position.{Position};
 ghost use Rattle.prices.specs.Book.{bookOf};
 ghost use Rattle.beam_row.specs.Path.{Path, ways as waysBy};
 ghost use Rattle.beam_row.specs.Step.{extended, countsNamed, mergedAt, kept as cheapest};
-ghost use Rattle.beam_row.specs.Held.{PathsFor, Stands, Takeable, Taken};
+ghost use Rattle.beam_row.specs.Held.{PathsFor, spotOf, Stands, Takeable, Taken};
 ghost use Rattle.beam_row.specs.Entries.{KeptIs};
 
 // At most three paths. The cost for `prev` p of path j stands at 2 j + p.
@@ -38,19 +38,19 @@ fn extend(
     configs: &[u8],
     symbols: &[f32],
     ready: &[f32],
-    spot: Spot,
+    place: Place,
+    levels: &[i32; 5],
+    count: usize,
     paths: Paths,
 ) -> Kept
-    requires { ⌜ Takeable (bookOf clusters (now map) (now configs) (now symbols) (now ready)) spot paths ⌝ }
-    requires { ⌜ spot .candidates .count ≡ 1 ⌝ }
+    requires { ⌜ Takeable (bookOf clusters (now map) (now configs) (now symbols) (now ready)) (spotOf place count (now levels)) paths ⌝ }
+    requires { ⌜ count ≡ 1 ⌝ }
     ensures { λ r. ⌜ r .count ≤ 3 ⌝ }
-    ensures { λ r. ⌜ ((q : Position) (xs : List Path) → Stands (bookOf clusters (now (map .entry)) (now (configs .entry)) (now (symbols .entry)) (now (ready .entry))) spot q → PathsFor xs paths
+    ensures { λ r. ⌜ ((q : Position) (xs : List Path) → Stands (bookOf clusters (now (map .entry)) (now (configs .entry)) (now (symbols .entry)) (now (ready .entry))) (spotOf place count (now (levels .entry))) q → PathsFor xs paths
         → KeptIs q xs (extended q (getD (q .candidates) 0 (pos 0)) xs) r) ⌝ }
 {
-    let place = spot.place;
-    let candidates = spot.candidates;
-    let distortion = place.distortion(candidates.levels[0]);
-    let nonzero = steps::nonzero(candidates.levels[0]);
+    let distortion = place.distortion(levels[0]);
+    let nonzero = steps::nonzero(levels[0]);
     let mut kept = Kept::none();
     let mut j = 0;
     while j < paths.count {
@@ -61,7 +61,7 @@ fn extend(
             symbols,
             ready,
             place,
-            candidates.levels[0],
+            levels[0],
             distortion,
             paths.remaining[j] + nonzero,
             paths.costs[2 * j + nonzero],
@@ -79,19 +79,19 @@ fn merge(
     configs: &[u8],
     symbols: &[f32],
     ready: &[f32],
-    spot: Spot,
+    place: Place,
+    levels: &[i32; 5],
+    count: usize,
     paths: Paths,
 ) -> Kept
-    requires { ⌜ Takeable (bookOf clusters (now map) (now configs) (now symbols) (now ready)) spot paths ⌝ }
+    requires { ⌜ Takeable (bookOf clusters (now map) (now configs) (now symbols) (now ready)) (spotOf place count (now levels)) paths ⌝ }
     ensures { λ r. ⌜ r .count ≤ 3 ⌝ }
-    ensures { λ r. ⌜ ((q : Position) (xs : List Path) → Stands (bookOf clusters (now (map .entry)) (now (configs .entry)) (now (symbols .entry)) (now (ready .entry))) spot q → PathsFor xs paths
+    ensures { λ r. ⌜ ((q : Position) (xs : List Path) → Stands (bookOf clusters (now (map .entry)) (now (configs .entry)) (now (symbols .entry)) (now (ready .entry))) (spotOf place count (now (levels .entry))) q → PathsFor xs paths
         → KeptIs q xs (cheapest (mergedAt q (waysBy xs (q .candidates)) (countsNamed [] xs))) r) ⌝ }
 {
-    let place = spot.place;
-    let candidates = spot.candidates;
-    let distortion = steps::reading::distortions(place, candidates);
+    let mut distortion = [0.0f32; 5];
+    steps::reading::distortions(place, levels, count, &mut distortion);
     let counts = counts::counts_named(paths);
-    let levels = candidates.levels;
     let remaining = paths.remaining;
     let costs = paths.costs;
     let mut kept = Kept::none();
@@ -104,9 +104,9 @@ fn merge(
             symbols,
             ready,
             place,
-            &levels,
+            levels,
             &distortion,
-            candidates.count,
+            count,
             paths.count,
             &remaining,
             &costs,
@@ -118,24 +118,45 @@ fn merge(
     kept
 }
 
-// From the paths behind a position to the paths from it on.
+// From the paths behind a position to the paths from it on. The first `count` of `levels` are its candidates.
 pub fn take_step(
     clusters: u32,
     map: &[u8],
     configs: &[u8],
     symbols: &[f32],
     ready: &[f32],
-    spot: Spot,
+    place: Place,
+    levels: &[i32; 5],
+    count: usize,
     paths: Paths,
 ) -> Step
-    requires { ⌜ Takeable (bookOf clusters (now map) (now configs) (now symbols) (now ready)) spot paths ⌝ }
-    ensures { λ r. ⌜ Taken (bookOf clusters (now (map .entry)) (now (configs .entry)) (now (symbols .entry)) (now (ready .entry))) spot paths r ⌝ }
+    requires { ⌜ Takeable (bookOf clusters (now map) (now configs) (now symbols) (now ready)) (spotOf place count (now levels)) paths ⌝ }
+    ensures { λ r. ⌜ Taken (bookOf clusters (now (map .entry)) (now (configs .entry)) (now (symbols .entry)) (now (ready .entry))) (spotOf place count (now (levels .entry))) paths r ⌝ }
 {
-    let candidates = spot.candidates;
-    if candidates.count == 1 {
-        let kept = extend(clusters, map, configs, symbols, ready, spot, paths);
+    if count == 1 {
+        let kept = extend(
+            clusters,
+            map,
+            configs,
+            symbols,
+            ready,
+            place,
+            levels,
+            count,
+            paths,
+        );
         return kept.step();
     }
-    let kept = merge(clusters, map, configs, symbols, ready, spot, paths);
+    let kept = merge(
+        clusters,
+        map,
+        configs,
+        symbols,
+        ready,
+        place,
+        levels,
+        count,
+        paths,
+    );
     kept.step()
 }

@@ -15,8 +15,8 @@ ghost use Rattle.prices.specs.Checks.{bookRefusal};
 ghost use Rattle.steps.specs.Place.{distortionAt, contextAt};
 ghost use Rattle.beam_row.specs.Path.{Path, Way, waysOf, ways};
 ghost use Rattle.beam_row.specs.Step.{merged};
-ghost use Rattle.beam_row.specs.Held.{noPath, PathsFor, Stands, Takeable};
-ghost use Rattle.beam_row.specs.Entries.{spotOf, gathered, Priced, PathIs, Leads, tried, alone, BothOf, EntryIs};
+ghost use Rattle.beam_row.specs.Held.{noPath, PathsFor, spotOf, Stands, Takeable};
+ghost use Rattle.beam_row.specs.Entries.{gathered, Priced, PathIs, Leads, tried, alone, BothOf, EntryIs};
 
 // One candidate more. Both values of `prev` are priced together, and each keeps its own best.
 fn try_way(
@@ -30,7 +30,7 @@ fn try_way(
     level: i32,
     distortion: f32,
     tail: f32,
-    choice: u8,
+    choice: u32,
     entry: Entry,
 ) -> Entry
     requires { ⌜ bookRefusal (bookOf clusters (now map) (now configs) (now symbols) (now ready)) ≡ 0 ⌝ }
@@ -65,8 +65,8 @@ fn try_levels(
     symbols: &[f32],
     ready: &[f32],
     place: Place,
-    levels: &[i32],
-    distortion: &[f32],
+    levels: &[i32; 5],
+    distortion: &[f32; 5],
     count: usize,
     context: usize,
     nonzero: usize,
@@ -97,7 +97,7 @@ fn try_levels(
                 level,
                 distortion[i],
                 tail,
-                (16 * j + i) as u8,
+                (16 * j + i) as u32,
                 best,
             );
         }
@@ -114,8 +114,8 @@ fn try_path(
     symbols: &[f32],
     ready: &[f32],
     place: Place,
-    levels: &[i32],
-    distortion: &[f32],
+    levels: &[i32; 5],
+    distortion: &[f32; 5],
     count: usize,
     context: usize,
     remaining: usize,
@@ -178,8 +178,8 @@ pub(crate) fn merge_count(
     symbols: &[f32],
     ready: &[f32],
     place: Place,
-    levels: &[i32],
-    distortion: &[f32],
+    levels: &[i32; 5],
+    distortion: &[f32; 5],
     count: usize,
     paths: usize,
     remaining: &[usize],
@@ -258,7 +258,7 @@ pub(crate) fn extend_path(
         level,
         distortion,
     );
-    let choice = (16 * j) as u8;
+    let choice = (16 * j) as u32;
     Entry {
         remaining,
         first: Best {

@@ -1,7 +1,7 @@
 use Rattle.beam_row.specs.Path.{Path, ways}
 use Rattle.beam_row.specs.Step.{countsNamed, mergedAt}
-use Rattle.beam_row.specs.Held.{PathsFor, Stands}
-use Rattle.beam_row.specs.Entries.{spotOf, KeptIs}
+use Rattle.beam_row.specs.Held.{PathsFor, spotOf, Stands}
+use Rattle.beam_row.specs.Entries.{KeptIs}
 use Rattle.least_cost.specs.Position.{Position}
 use Rattle.prices.specs.Book.{bookOf}
 use mathlib.Core.List.{List, []}
@@ -11,28 +11,28 @@ use lib.ListN.{length, take}
 use Prim.Native.Nat.{ℕ, _+_, _-_, _≤_}
 use Rattle.beam_row.proofs.Keeping.{soFar, so-far-start, merged-next, merged-all}
 use Rattle.beam_row.proofs.Growing.{counts-coded}
-use Rattle.beam_row.proofs.Trying.{count-few, stands-of, takeable-of, priced-of}
+use Rattle.beam_row.proofs.Trying.{count-few, priced-of}
 use borrow.Author.Needs.{needs}
 use Rattle.beam_row.proofs.merge.Statement.{statement}
 use Rattle.beam_row.proofs.merge.Tie as tie
 
 abbrev Inv-loop : tie.InvT-loop
-Inv-loop clusters map configs symbols ready paths place candidates distortion counts levels remaining costs kept₀ d₀ kept d =
+Inv-loop clusters map configs symbols ready place levels count paths distortion counts remaining costs kept₀ d₀ kept d =
     (d ≤ counts .length)
     × ((kept .count ≤ 3)
     × ((counts .length ≤ 3 → kept .count ≡ d)
-    × ((q : Position) (xs : List Path) → Stands (bookOf clusters map configs symbols ready) (spotOf place (candidates .count) (candidates .levels)) q → PathsFor xs paths
+    × ((q : Position) (xs : List Path) → Stands (bookOf clusters map configs symbols ready) (spotOf place count levels) q → PathsFor xs paths
     → KeptIs q xs (soFar (counts .length) (mergedAt q (ways xs (q .candidates)) (take d (countsNamed [] xs)))) kept)))
 
 abbrev μ-loop : tie.MeasureT-loop
-μ-loop clusters map configs symbols ready paths place candidates distortion counts levels remaining costs kept₀ d₀ kept d = counts .length - d
+μ-loop clusters map configs symbols ready place levels count paths distortion counts remaining costs kept₀ d₀ kept d = counts .length - d
 
 distortions-requires : tie.Need-distortions-requires Inv-loop μ-loop
 distortions-requires c κs = search needs
 
 counts-named-requires : tie.Need-counts-named-requires Inv-loop μ-loop
 counts-named-requires c κs =
-    let K = c .before .before .before .before .before .before .before .pre in
+    let K = c .before .before .before .before .before .before .pre in
     ((K .few, K .three), λ j h. count-few K h)
 
 none-requires : tie.Need-none-requires Inv-loop μ-loop
@@ -41,19 +41,13 @@ none-requires c κs = search needs
 loop-holds : tie.Need-loop-holds Inv-loop μ-loop
 loop-holds c =
     let none = c .none .ensures in
-    (search needs, (omega (arith, none .0), (λ _. none .0, λ q xs S W. rw (so-far-start q (ways xs (q .candidates)) (c .before .before .before .before .counts-named .result .length)) (none .1 q xs))))
+    (search needs, (omega (arith, none .0), (λ _. none .0, λ q xs S W. rw (so-far-start q (ways xs (q .candidates)) (c .before .before .before .counts-named .result .length)) (none .1 q xs))))
 
 slice-aggregate-merge-count : tie.Need-slice-aggregate-merge-count Inv-loop μ-loop
-slice-aggregate-merge-count c = sym (c .before .before .before .before .before .before .before .before .before .before .before .before .before .before .before .pre .usable .five)
+slice-aggregate-merge-count c = sym (c .before .before .before .before .before .before .before .before .before .before .before .before .before .before .pre .three)
 
 slice-aggregate-merge-count-2 : tie.Need-slice-aggregate-merge-count-2 Inv-loop μ-loop
-slice-aggregate-merge-count-2 c = search needs
-
-slice-aggregate-merge-count-3 : tie.Need-slice-aggregate-merge-count-3 Inv-loop μ-loop
-slice-aggregate-merge-count-3 c = sym (c .before .before .before .before .before .before .before .before .before .before .before .before .before .before .before .before .before .pre .three)
-
-slice-aggregate-merge-count-4 : tie.Need-slice-aggregate-merge-count-4 Inv-loop μ-loop
-slice-aggregate-merge-count-4 c = sym (c .before .before .before .before .before .before .before .before .before .before .before .before .before .before .before .before .before .before .pre .six)
+slice-aggregate-merge-count-2 c = sym (c .before .before .before .before .before .before .before .before .before .before .before .before .before .before .before .pre .six)
 
 mul-merge-count : tie.Need-mul-merge-count Inv-loop μ-loop
 mul-merge-count c = search needs
@@ -63,27 +57,27 @@ element-copy-out-merge-count c = search needs
 
 merge-count-requires : tie.Need-merge-count-requires Inv-loop μ-loop
 merge-count-requires c κs =
-    let named = c .before .before .before .before .before .before .before .before .before .before .before in
-    let K = named .before .before .before .before .before .before .before .before .pre in
+    let named = c .before .before .before .before .before .before .before .before .before in
+    let K = named .before .before .before .before .before .before .before .pre in
     let names = named .counts-named .ensures in
-    (takeable-of K, (priced-of K (search needs) (named .before .distortions .ensures), counts-coded _ K (names .1) (omega (arith, names .0 .0, names .0 .1)) (c .before .before .before .before .before .loop-test .taken)))
+    (K, (priced-of K (named .before .distortions .ensures), counts-coded _ K (names .1) (omega (arith, names .0 .0, names .0 .1)) (c .before .before .before .before .loop-test .taken)))
 
 keep-requires : tie.Need-keep-requires Inv-loop μ-loop
 keep-requires c κs =
-    let inv = c .before .before .before .before .before .before .before .loop .inv in
-    (inv .1 .0, λ h. omega (arith, h, inv .1 .1 .0 h, c .before .before .before .before .before .before .loop-test .taken))
+    let inv = c .before .before .before .before .before .before .loop .inv in
+    (inv .1 .0, λ h. omega (arith, h, inv .1 .1 .0 h, c .before .before .before .before .before .loop-test .taken))
 
 add-d : tie.Need-add-d Inv-loop μ-loop
-add-d c = record { fits = omega (arith, c .before .before .before .before .before .before .before .loop-test .taken, c .before .before .before .before .before .before .before .before .before .before .before .before .before .counts-named .ensures .0 .0) }
+add-d c = record { fits = omega (arith, c .before .before .before .before .before .before .loop-test .taken, c .before .before .before .before .before .before .before .before .before .before .before .counts-named .ensures .0 .0) }
 
 loop-less : tie.Need-loop-less Inv-loop μ-loop
 loop-less c = search needs
 
 loop-again : tie.Need-loop-again Inv-loop μ-loop
 loop-again c =
-    let inv = c .before .before .before .before .before .before .before .before .loop .inv in
-    let names = c .before .before .before .before .before .before .before .before .before .before .before .before .before .counts-named .ensures in
-    let here = c .before .before .before .before .before .before .before .loop-test .taken in
+    let inv = c .before .before .before .before .before .before .before .loop .inv in
+    let names = c .before .before .before .before .before .before .before .before .before .before .before .counts-named .ensures in
+    let here = c .before .before .before .before .before .before .loop-test .taken in
     let keep = c .keep .ensures in (
       search needs,
       (
@@ -100,10 +94,10 @@ loop-again c =
 returns : tie.Need-returns Inv-loop μ-loop
 returns c =
     let inv = c .before .loop .inv in
-    let named = c .before .before .before .before .before .before .counts-named in
+    let named = c .before .before .before .before .before .counts-named in
     let names = named .ensures in
     let last : c .before .loop .d ≡ named .result .length = omega (arith, inv .0, c .loop-test .left) in
-    (inv .1 .0, λ q xs S W. merged-all (ways xs (q .candidates)) _ (names .1 xs W) (omega (arith, names .0 .0, names .0 .1)) last (inv .1 .1 .1 q xs (stands-of S) W))
+    (inv .1 .0, λ q xs S W. merged-all (ways xs (q .candidates)) _ (names .1 xs W) (omega (arith, names .0 .0, names .0 .1)) last (inv .1 .1 .1 q xs S W))
 
 pub merge-spec : {M : Type 1} → statement M
 merge-spec =
@@ -117,8 +111,6 @@ merge-spec =
     loop-holds
     slice-aggregate-merge-count
     slice-aggregate-merge-count-2
-    slice-aggregate-merge-count-3
-    slice-aggregate-merge-count-4
     mul-merge-count
     element-copy-out-merge-count
     merge-count-requires

@@ -10,7 +10,7 @@ step-requires : tie.Need-step-requires
 step-requires c κs = c .extend .ensures .0
 
 returns : tie.Need-returns
-returns c = taken-sole (c .before .before .before .before .before .before .before .before .before .pre) (c .step .ensures) (c .before .before .if1 .taken) (c .before .extend .ensures .1)
+returns c = taken-sole (c .before .before .before .before .before .before .before .pre) (c .step .ensures) (c .before .before .if1 .taken) (c .before .extend .ensures .1)
 
 merge-requires : tie.Need-merge-requires
 merge-requires c κs = search needs
@@ -19,7 +19,7 @@ step-requires-2 : tie.Need-step-requires-2
 step-requires-2 c κs = c .merge .ensures .0
 
 returns-2 : tie.Need-returns-2
-returns-2 c = taken-several (c .before .before .before .before .before .before .before .before .before .pre) (c .step2 .ensures) (c .before .before .if1 .left) (c .before .merge .ensures .1)
+returns-2 c = taken-several (c .before .before .before .before .before .before .before .pre) (c .step2 .ensures) (c .before .before .if1 .left) (c .before .merge .ensures .1)
 
 pub take-step-spec : {M : Type 1} → statement M
 take-step-spec =

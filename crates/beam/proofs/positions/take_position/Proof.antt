@@ -1,37 +1,44 @@
 use mathlib.Core.Path.{refl}
 use native.Mathlib.Omega.{arith}
+use Rattle.steps.proofs.Zero.{handed-current, current-back}
 use Rattle.beam.proofs.Taking.{base-few, position-few, window-few, readable-now, spotted-now, takeable, stepped-here}
 use borrow.Author.Needs.{needs}
 use Rattle.beam.proofs.positions.take_position.Statement.{statement}
 use Rattle.beam.proofs.positions.take_position.Tie as tie
-use Rattle.beam.proofs.positions.take_position.Reads as reads
-use Rattle.beam.proofs.positions.take_position.Lts as lts
-use Rattle.beam.proofs.positions.store.Reads as store-reads
-use Rattle.beam_row.proofs.take_step.Reads as take-step-reads
-use Rattle.steps.proofs.reading.Plan.spot.Reads as spot-reads
 
-spot-requires : tie.Need-spot-requires
-spot-requires c κs =
-    let pre = c .before .before .before .before .before .before .before .before .pre in
+offer-requires : tie.Need-offer-requires
+offer-requires c κs =
+    let pre = c .before .before .before .before .before .before .before .before .before .pre in
     let w = pre .0 in
     let h = pre .1 .0 w .0 in
-    (readable-now w _ h, (base-few (w .checked), position-few (w .checked) _ h))
+    (readable-now w _ h, position-few (w .checked) _ h)
+
+place-requires : tie.Need-place-requires
+place-requires c κs =
+    let pre = c .before .before .before .before .before .before .before .before .before .before .before .pre in
+    let w = pre .0 in
+    let h = pre .1 .0 w .0 in
+    let offer = c .before .offer in
+    (base-few (w .checked), (position-few (w .checked) _ h, handed-current _ (offer .result .level) (offer .ensures .1 .1) (readable-now w _ h .level)))
 
 take-step-requires : tie.Need-take-step-requires
 take-step-requires c κs =
-    let pre = c .before .before .before .before .before .before .before .before .before .pre in
+    let pre = c .before .before .before .before .before .before .before .before .before .before .before .before .before .pre in
     let w = pre .0 in
-    takeable (w .checked) _ (pre .1 .0 w .0) (spotted-now w (c .spot .ensures .0)) (pre .1 .0 w .1) (c .spot .ensures .1)
+    let h = pre .1 .0 w .0 in
+    let offer = c .before .before .before .offer in
+    let back = current-back (offer .result .level) (rw (offer .ensures .1 .1) (readable-now w _ h .level)) in
+    takeable (w .checked) _ h (spotted-now w (offer .ensures .0) back (c .before .place .ensures)) (pre .1 .0 w .1) (offer .ensures .1 .0)
 
 mul-store : tie.Need-mul-store
 mul-store c =
-    let pre = c .before .before .before .before .before .before .before .before .before .before .before .before .pre in
+    let pre = c .before .before .before .before .before .before .before .before .before .before .before .before .before .before .before .before .pre in
     let w = pre .0 in
     record { fits = omega (arith, pre .1 .0 w .0, window-few (w .checked)) }
 
 store-requires : tie.Need-store-requires
 store-requires c κs =
-    let pre = c .before .before .before .before .before .before .before .before .before .before .before .before .pre in
+    let pre = c .before .before .before .before .before .before .before .before .before .before .before .before .before .before .before .before .pre in
     let w = pre .0 in
     (omega (arith, pre .1 .0 w .0, window-few (w .checked)), pre .1 .1)
 
@@ -40,10 +47,21 @@ same-length c = search needs
 
 returns : tie.Need-returns
 returns c =
-    let pre = c .before .before .before .before .before .before .before .before .before .before .before .before .before .before .before .before .pre in
+    let pre = c .before .before .before .before .before .before .before .before .before .before .before .before .before .before .before .before .before .before .before .before .pre in
+    let offer = c .before .before .before .before .before .before .before .before .before .before .offer in
     λ w.
-    stepped-here (w .checked) _ (pre .1 .0 w .0) (spotted-now w (c .before .before .before .before .before .before .before .spot .ensures .0)) (pre .1 .0 w .1) (c .before .before .before .before .before .before .take-step .ensures) refl (c .before .before .before .store .ensures)
+    let h = pre .1 .0 w .0 in
+    let back = current-back (offer .result .level) (rw (offer .ensures .1 .1) (readable-now w _ h .level)) in
+    stepped-here (w .checked) _ h (spotted-now w (offer .ensures .0) back (c .before .before .before .before .before .before .before .before .place .ensures)) (pre .1 .0 w .1) (c .before .before .before .before .before .before .take-step .ensures) refl (c .before .before .before .store .ensures)
 
 pub take-position-spec : {M : Type 1} → statement M
 take-position-spec =
-    tie.close (tie.spec spot-requires take-step-requires mul-store store-requires same-length returns)
+    tie.close
+    (tie.spec
+    offer-requires
+    place-requires
+    take-step-requires
+    mul-store
+    store-requires
+    same-length
+    returns)

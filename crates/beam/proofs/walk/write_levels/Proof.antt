@@ -9,11 +9,11 @@ use Rattle.beam.proofs.walk.write_levels.Statement.{statement}
 use Rattle.beam.proofs.walk.write_levels.Tie as tie
 
 abbrev Inv-loop : tie.InvT-loop
-Inv-loop scan source inv-qm levels₀ plan choices first count covered prev₀ path₀ i₀ i-end levels prev path i =
+Inv-loop scan source inv-qm levels₀ plan choices first count covered prev₀ path₀ offered₀ i₀ i-end levels prev path offered i =
     ((w : Walkable scan source inv-qm levels₀ plan choices first count) → WalkedTo w i levels path prev) × ((covered ≡ plan .covered) × ((i-end ≡ plan .window .length) × (i ≤ i-end)))
 
 abbrev μ-loop : tie.MeasureT-loop
-μ-loop scan source inv-qm levels₀ plan choices first count covered prev₀ path₀ i₀ i-end levels prev path i =
+μ-loop scan source inv-qm levels₀ plan choices first count covered prev₀ path₀ offered₀ i₀ i-end levels prev path offered i =
     i-end - i
 
 first-prev-requires : tie.Need-first-prev-requires Inv-loop μ-loop
@@ -24,9 +24,9 @@ loop-holds c = ((λ w. walk-starts w (c .first-prev .ensures)), (refl, (refl, ze
 
 offer-requires : tie.Need-offer-requires Inv-loop μ-loop
 offer-requires c κs =
-    let w = c .before .before .before .before .before .before .before .before .before .pre in
-    let inv = c .before .before .loop .inv in
-    let h = in-window w (c .before .loop-test .taken) (inv .1 .1 .0) in
+    let w = c .before .before .before .before .before .before .before .before .before .before .pre in
+    let inv = c .before .before .before .loop .inv in
+    let h = in-window w (c .before .before .loop-test .taken) (inv .1 .1 .0) in
     (readable-on w (inv .0 w) h, position-few (w .checked) _ h)
 
 choice-at-requires : tie.Need-choice-at-requires Inv-loop μ-loop
@@ -42,18 +42,18 @@ mul-level c =
     let w = c .before .before .before .before .before .before .before .before .before .before .before .before .pre in
     let inv = c .before .before .before .before .before .loop .inv in
     let h = in-window w (c .before .before .before .before .loop-test .taken) (inv .1 .1 .0) in
-    let below = index-below w (inv .0 w) h (c .before .before .offer .ensures .0) (c .before .before .offer .ensures .1 .0) (c .choice-at .ensures) in
-    let five = c .before .before .offer .ensures .1 .0 .few in
+    let below = index-below w (inv .0 w) h (c .before .offer .ensures .0) (c .before .offer .ensures .1 .0) (c .choice-at .ensures) in
+    let five = c .before .offer .ensures .1 .0 .few in
     record { fits = omega arith }
 
-element-copy-out-level : tie.Need-element-copy-out-level Inv-loop μ-loop
-element-copy-out-level c =
+array-copy-out-level : tie.Need-array-copy-out-level Inv-loop μ-loop
+array-copy-out-level c =
     let w = c .before .before .before .before .before .before .before .before .before .before .before .before .pre in
     let inv = c .before .before .before .before .before .loop .inv in
     let h = in-window w (c .before .before .before .before .loop-test .taken) (inv .1 .1 .0) in
-    let below = index-below w (inv .0 w) h (c .before .before .offer .ensures .0) (c .before .before .offer .ensures .1 .0) (c .choice-at .ensures) in
-    let five = c .before .before .offer .ensures .1 .0 .few in
-    omega (arith, c .before .before .offer .ensures .1 .0 .five)
+    let below = index-below w (inv .0 w) h (c .before .offer .ensures .0) (c .before .offer .ensures .1 .0) (c .choice-at .ensures) in
+    let five = c .before .offer .ensures .1 .0 .few in
+    omega arith
 
 add-write-level : tie.Need-add-write-level Inv-loop μ-loop
 add-write-level c =
@@ -87,7 +87,7 @@ loop-again : tie.Need-loop-again Inv-loop μ-loop
 loop-again c =
     let inv = c .before .before .before .before .before .before .before .before .before .before .loop .inv in
     let taken = c .before .before .before .before .before .before .before .before .before .loop-test .taken in
-    let offer = c .before .before .before .before .before .before .before .offer .ensures in (
+    let offer = c .before .before .before .before .before .before .offer .ensures in (
       λ w. walked-on w (inv .0 w) (in-window w taken (inv .1 .1 .0)) (offer .0) (offer .1 .0) (c .before .before .before .before .before .choice-at .ensures) (c .nonzero .ensures) (ap (λ (n : ℕ). n + c .before .before .before .before .before .before .before .before .before .before .loop .i) (inv .1 .0)) (c .before .before .write-level .ensures),
       (inv .1 .0, (inv .1 .1 .0, omega arith)),
     )
@@ -111,7 +111,7 @@ write-levels-spec =
     offer-requires
     choice-at-requires
     mul-level
-    element-copy-out-level
+    array-copy-out-level
     add-write-level
     write-level-requires
     nonzero-requires

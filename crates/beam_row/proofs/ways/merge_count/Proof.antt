@@ -1,6 +1,6 @@
 use Rattle.beam_row.specs.Path.{Path, ways}
-use Rattle.beam_row.specs.Held.{PathsFor, Stands}
-use Rattle.beam_row.specs.Entries.{spotOf, gathered, BothOf}
+use Rattle.beam_row.specs.Held.{PathsFor, spotOf, Stands}
+use Rattle.beam_row.specs.Entries.{gathered, BothOf}
 use Rattle.least_cost.specs.Position.{Position}
 use Rattle.prices.specs.Book.{bookOf}
 use mathlib.Core.List.{List}
@@ -26,7 +26,7 @@ abbrev μ-loop : tie.MeasureT-loop
 
 context-requires : tie.Need-context-requires Inv-loop μ-loop
 context-requires c κs =
-    let pre = c .before .before .before .before .before .before .before .pre in
+    let pre = c .before .before .before .before .before .before .pre in
     (pre .0 .covers, (λ h. record { some = h; left = pre .1 .1; coded = pre .0 .coded; flag = omega arith }, pre .0 .offset))
 
 infinity-requires : tie.Need-infinity-requires Inv-loop μ-loop
@@ -64,7 +64,7 @@ shared-slice-read-try-path-3 c = search needs
 
 try-path-requires : tie.Need-try-path-requires Inv-loop μ-loop
 try-path-requires c κs =
-    let pre = c .before .before .before .before .before .before .before .before .before .before .before .before .before .before .pre in
+    let pre = c .before .before .before .before .before .before .before .before .before .before .before .before .before .pre in
     let same = c .before .before .before .before .loop .inv .1 .0 in
     let context = c .before .before .before .before .before .before .context .ensures in
     let here = c .before .before .before .loop-test .taken in
@@ -86,7 +86,7 @@ loop-again c =
 returns : tie.Need-returns Inv-loop μ-loop
 returns c =
     let inv = c .before .loop .inv in
-    let last : c .before .loop .j ≡ c .before .before .before .before .before .before .before .before .before .before .before .args .paths = omega (arith, inv .0, c .loop-test .left) in
+    let last : c .before .loop .j ≡ c .before .before .before .before .before .before .before .before .before .before .args .paths = omega (arith, inv .0, c .loop-test .left) in
     λ q xs S W. paths-all W last (inv .1 .0) (inv .1 .1 q xs S W)
 
 pub merge-count-spec : {M : Type 1} → statement M

@@ -1,6 +1,6 @@
 use Rattle.beam_row.specs.Path.{Path, Way, waysOf}
-use Rattle.beam_row.specs.Held.{noPath, Stands}
-use Rattle.beam_row.specs.Entries.{spotOf, Leads, BothOf}
+use Rattle.beam_row.specs.Held.{noPath, spotOf, Stands}
+use Rattle.beam_row.specs.Entries.{Leads, BothOf}
 use Rattle.least_cost.specs.Position.{Position}
 use Rattle.prices.specs.Book.{bookOf}
 use mathlib.Core.List.{List, _++_}
@@ -33,8 +33,8 @@ loop-holds c = (search needs, (refl, λ q xs ws S L b. both-start _ b))
 mul-level : tie.Need-mul-level Inv-loop μ-loop
 mul-level c = search needs
 
-shared-slice-copy-out-level : tie.Need-shared-slice-copy-out-level Inv-loop μ-loop
-shared-slice-copy-out-level c = search needs
+element-copy-out-level : tie.Need-element-copy-out-level Inv-loop μ-loop
+element-copy-out-level c = search needs
 
 nonzero-requires : tie.Need-nonzero-requires Inv-loop μ-loop
 nonzero-requires c κs = search needs
@@ -42,8 +42,8 @@ nonzero-requires c κs = search needs
 mul-try-way : tie.Need-mul-try-way Inv-loop μ-loop
 mul-try-way c = search needs
 
-shared-slice-read-try-way : tie.Need-shared-slice-read-try-way Inv-loop μ-loop
-shared-slice-read-try-way c = search needs
+element-copy-out-try-way : tie.Need-element-copy-out-try-way Inv-loop μ-loop
+element-copy-out-try-way c = search needs
 
 mul-try-way-2 : tie.Need-mul-try-way-2 Inv-loop μ-loop
 mul-try-way-2 c = search needs
@@ -56,7 +56,7 @@ cast-try-way c = search needs
 
 try-way-requires : tie.Need-try-way-requires Inv-loop μ-loop
 try-way-requires c κs =
-    let start = c .before .before .before .before .before .before .before .before .before .before .before in
+    let start = c .before .before .before .before .before .before .before .before .before .before in
     let P = start .pre .0 in
     let here = c .before .before .before .before .loop-test .taken in
     (P .priced, ((start .pre .1 .0 .1, usable-level (P .usable) _ here), distortion-is (spotOf (start .args .place) (start .args .count) (start .args .levels .now)) (P .usable) (P .each) here))
@@ -70,11 +70,11 @@ loop-less c = search needs
 -- where the branches meet
 joined : (c : tie.Joined1 Inv-loop μ-loop)
     → let at = c .before .before .before .before in
-    let a = at .before .before .before .before .before .before .args in
+    let a = at .before .before .before .before .before .args in
     OneMore (bookOf (a .clusters) (a .map .now) (a .configs .now) (a .symbols .now) (a .ready .now)) (spotOf (a .place) (a .count) (a .levels .now)) (a .j) (a .nonzero) (at .loop .i) (a .tail) (at .loop .best) (c .if1 .best)
 joined c =
     let at = c .before .before .before .before in
-    let pre = at .before .before .before .before .before .before .pre in
+    let pre = at .before .before .before .before .before .pre in
     let here = c .before .before .before .loop-test .taken in
     let nz = c .before .nonzero .ensures in
     ⊎-elim (λ w. more-tried (pre .0 .usable) here nz (w .0 .taken) (pre .1 .0 .0 ∙ ap (contextAt _) (sym (at .loop .inv .1 .0))) (w .3 ∙ w .2 .ensures)) (λ w. more-other (pre .0 .usable) here nz (w .0 .left) (w .1)) (c .if1 .came)
@@ -82,7 +82,7 @@ joined c =
 loop-again : tie.Need-loop-again Inv-loop μ-loop
 loop-again c =
     let at = c .before .before .before .before in
-    let usable = at .before .before .before .before .before .before .pre .0 .usable in
+    let usable = at .before .before .before .before .before .pre .0 .usable in
     let inv = at .loop .inv in
     let here = c .before .before .before .loop-test .taken in
     let next = joined c in
@@ -90,7 +90,7 @@ loop-again c =
 
 returns : tie.Need-returns Inv-loop μ-loop
 returns c =
-    let start = c .before .before .before .before .before .before .before in
+    let start = c .before .before .before .before .before .before in
     let inv = c .before .loop .inv in
     let last : c .before .loop .i ≡ start .args .count = omega (arith, inv .0, c .loop-test .left) in
     (inv .1 .0, λ q xs ws S L b. candidates-all ws _ S (start .pre .0 .usable) last (inv .1 .1 q xs ws S L b))
@@ -103,10 +103,10 @@ try-levels-spec =
     μ-loop
     loop-holds
     mul-level
-    shared-slice-copy-out-level
+    element-copy-out-level
     nonzero-requires
     mul-try-way
-    shared-slice-read-try-way
+    element-copy-out-try-way
     mul-try-way-2
     add-try-way
     cast-try-way
