@@ -28,9 +28,9 @@ pub record Half (g : ℤ → Float) (levels : List ℤ) (j : ℕ) (xs : List Flo
   pub least : Scanned g levels j l
   pub zero : ZeroSeen g levels j z
 
-pub record Partly (g h : ℤ → Float) (levels : List ℤ) (j : ℕ) (l : Locals) : Type 0 where
-  pub first : Half g levels j (l .first) (l .«least_first») (l .«zero_first»)
-  pub second : Half h levels j (l .second) (l .«least_second») (l .«zero_second»)
+pub record Partly (g h : ℤ → Float) (levels : List ℤ) (j : ℕ) (xs ys : List Float) (l : Locals) : Type 0 where
+  pub first : Half g levels j xs (l .«least_first») (l .«zero_first»)
+  pub second : Half h levels j ys (l .«least_second») (l .«zero_second»)
 
 pub zero-is : (q : ℤ) → nz q ≡ 0 → q ≡ pos 0
 unfolding nz
@@ -53,11 +53,11 @@ half-none g levels costs l z few long e =
       zero = record { seen = λ k h. absurd (omega arith) };
     }
 
-pub partly-none : (g h : ℤ → Float) (levels : List ℤ) (l : Locals) → length levels ≤ 5 → Empty l → Partly g h levels 0 l
-partly-none g h levels l few w =
+pub partly-none : (g h : ℤ → Float) (levels : List ℤ) (xs ys : List Float) (l : Locals) → length levels ≤ 5 → length xs ≡ 5 → length ys ≡ 5 → Empty l → Partly g h levels 0 xs ys l
+partly-none g h levels xs ys l few long size w =
     record {
-      first = half-none g levels (l .first) (l .«least_first») (l .«zero_first») few (w .first) (w .least-first);
-      second = half-none h levels (l .second) (l .«least_second») (l .«zero_second») few (w .second) (w .least-second);
+      first = half-none g levels xs (l .«least_first») (l .«zero_first») few long (w .least-first);
+      second = half-none h levels ys (l .«least_second») (l .«zero_second») few size (w .least-second);
     }
 
 -- one level more, for one `prev`
@@ -87,20 +87,20 @@ half-more g levels j costs l z x room few e w =
         let other : k ≡ j → ⊥ = λ same. eqb-false (nz level) 0 t (rw same at o) in
         w .zero .seen k (omega (arith, other)) o
 
-partly-more : {g h : ℤ → Float} {levels : List ℤ} {j : ℕ} {l : Locals} {x y : Float} → j < length levels → length levels ≤ 5 → x ≡ g (getD levels j (pos 0)) → y ≡ h (getD levels j (pos 0)) → Partly g h levels j l
-    → Partly g h levels (j + 1) (noted l j (getD levels j (pos 0)) x y)
+partly-more : {g h : ℤ → Float} {levels : List ℤ} {j : ℕ} {xs ys : List Float} {l : Locals} {x y : Float} → j < length levels → length levels ≤ 5 → x ≡ g (getD levels j (pos 0)) → y ≡ h (getD levels j (pos 0)) → Partly g h levels j xs ys l
+    → Partly g h levels (j + 1) (set xs j x) (set ys j y) (noted l j (getD levels j (pos 0)) x y)
 unfolding noted
-partly-more {g} {h} {levels} {j} {l} {x} {y} room few p q w =
+partly-more {g} {h} {levels} {j} {xs} {ys} {l} {x} {y} room few p q w =
     record {
-      first = half-more g levels j (l .first) (l .«least_first») (l .«zero_first») x room few p (w .first);
-      second = half-more h levels j (l .second) (l .«least_second») (l .«zero_second») y room few q (w .second);
+      first = half-more g levels j xs (l .«least_first») (l .«zero_first») x room few p (w .first);
+      second = half-more h levels j ys (l .«least_second») (l .«zero_second») y room few q (w .second);
     }
 
 -- the same as the code has it: m is what l became with the level q and its local costs
-pub partly-noted : {g h : ℤ → Float} {levels : List ℤ} {j : ℕ} {l m : Locals} {q : ℤ} {x y : Float} → j < length levels → length levels ≤ 5 → q ≡ getD levels j (pos 0)
-    → x ≡ g q → y ≡ h q → m ≡ noted l j q x y → Partly g h levels j l → Partly g h levels (j + 1) m
-partly-noted {g} {h} {levels} {j} {l} {m} {q} {x} {y} room few same p r e w =
-    subst⁻¹ (λ (n : Locals). Partly g h levels (j + 1) n) (e ∙ ap (λ (z : ℤ). noted l j z x y) same)
+pub partly-noted : {g h : ℤ → Float} {levels : List ℤ} {j : ℕ} {xs ys : List Float} {l m : Locals} {q : ℤ} {x y : Float} → j < length levels → length levels ≤ 5 → q ≡ getD levels j (pos 0)
+    → x ≡ g q → y ≡ h q → m ≡ noted l j q x y → Partly g h levels j xs ys l → Partly g h levels (j + 1) (set xs j x) (set ys j y) m
+partly-noted {g} {h} {levels} {j} {xs} {ys} {l} {m} {q} {x} {y} room few same p r e w =
+    subst⁻¹ (λ (n : Locals). Partly g h levels (j + 1) (set xs j x) (set ys j y) n) (e ∙ ap (λ (z : ℤ). noted l j z x y) same)
     (partly-more room few (p ∙ ap g same) (r ∙ ap h same) w)
 
 -- where 0 is listed, it stands somewhere
@@ -121,11 +121,11 @@ stands (q ∷ qs) e = go (eqb (nz q) 0) refl (λ t. stands qs t) e
 zero-of : {g : ℤ → Float} {levels : List ℤ} {z : Float} → ZeroSeen g levels (length levels) z → hasZero levels ≡ true → z ≡ g (pos 0)
 zero-of {g} {levels} w e = let s = stands levels e in w .seen (s .place) (s .below) (s .zero)
 
-pub partly-all : {g h : ℤ → Float} {levels : List ℤ} {l : Locals} → Partly g h levels (length levels) l → Located g h levels l
+pub partly-all : {g h : ℤ → Float} {levels : List ℤ} {xs ys : List Float} {l : Locals} → Partly g h levels (length levels) xs ys l → Located g h levels xs ys l
 partly-all w =
     record {
-      first = record { at = w .first .costs .at };
-      second = record { at = w .second .costs .at };
+      first-each = record { at = w .first .costs .at };
+      second-each = record { at = w .second .costs .at };
       least-first = scanned-all (w .first .least);
       least-second = scanned-all (w .second .least);
       zero-first = zero-of (w .first .zero);

@@ -194,10 +194,10 @@ module _ (book : Book) (x : Place) (levels : List ℤ) (next : List Float) (s : 
       (rw q (entry-dead book x levels next s least r (2 * (r - least) + 1) 1 n second-count second-prev (λ z. G 1 z (lit≤ tt)) u v))
 
 -- the local costs in a context are those of each count that has it
-pub located-at : (book : Book) (x : Place) (levels : List ℤ) (l : Locals) (n context : ℕ) → contextAt x n ≡ context → Located (localIn book x context 0) (localIn book x context 1) levels l
-    → Located (localAt book x n 0) (localAt book x n 1) levels l
+pub located-at : (book : Book) (x : Place) (levels : List ℤ) (first second : List Float) (l : Locals) (n context : ℕ) → contextAt x n ≡ context
+    → Located (localIn book x context 0) (localIn book x context 1) levels first second l → Located (localAt book x n 0) (localAt book x n 1) levels first second l
 unfolding localAt
-located-at book x levels l n context e w = subst⁻¹ (λ (k : ℕ). Located (localIn book x k 0) (localIn book x k 1) levels l) e w
+located-at book x levels first second l n context e w = subst⁻¹ (λ (k : ℕ). Located (localIn book x k 0) (localIn book x k 1) levels first second l) e w
 
 -- ---- a run of counts
 -- what holds up to e and of the next number holds up to that
@@ -303,3 +303,19 @@ so-far-more {at = at} {least} {most} {r} {e} h k w size elsewhere more =
       elsewhere = rw step (elsewhere-more (w .elsewhere) elsewhere);
       done = more (w .done);
     }
+
+-- there is room for the next pair
+pub so-far-room : {book : Book} {x : Place} {levels : List ℤ} {next : List Float} {s : Span} {at least most r : ℕ} {row row' : List Float} {choices choices' : List ℕ}
+    → r ≤ most → SoFar book x levels next s at least most r row row' choices choices' → (2 * (most - least) + 1 < length row) × (at + 2 * (most - least) + 1 < length choices)
+    → (2 * (r - least) + 1 < length row') × (at + 2 * (r - least) + 1 < length choices')
+so-far-room h w room = (omega (arith, room .0, w .size, w .from), omega (arith, room .1, w .elsewhere .size, w .from))
+
+-- a count more, its pair written
+pub so-far-pair : {book : Book} {x : Place} {levels : List ℤ} {next : List Float} {s : Span} {at least most r : ℕ} {row row' row'' : List Float} {choices choices' choices'' : List ℕ}
+    → r ≤ most → SoFar book x levels next s at least most r row row' choices choices' → length row'' ≡ length row' → Elsewhere (at + 2 * (r - least)) 2 choices' choices''
+    → (RowIs book x levels next s least at (2 * (r - least)) row' choices' → RowIs book x levels next s least at (2 * (r - least) + 2) row'' choices'')
+    → SoFar book x levels next s at least most (r + 1) row row'' choices choices''
+so-far-pair {least = least} {r = r} h w size elsewhere more =
+    let one : 2 * (r + 1 - r) ≡ 2 = omega arith in
+    let step : 2 * (r + 1 - least) ≡ 2 * (r - least) + 2 = omega (arith, w .from) in
+    so-far-more (le-refl r) h w size (rw one elsewhere) (λ v. rw step (more v))

@@ -4,7 +4,7 @@ use mathlib.Core.Path.{_≡_}
 use mathlib.Core.Bool.{true, false, cond}
 use mathlib.Core.List.{List}
 use lib.IntN.{ℤ, pos}
-use lib.ListN.{getD, set, take, length}
+use lib.ListN.{getD}
 use lib.Ieee.{Float, nan, inf, lt}
 use lib.Dec.{T, eqb}
 use Rattle.bias.specs.Level.{isLevel}
@@ -29,10 +29,10 @@ pub record FirstLeast (g : ℤ → Float) (levels : List ℤ) (l : Least) : Type
   pub before : l .before ≡ runnerUp g (inf false) (inf false) (nonzeros levels)
   pub choice : getD levels (l .choice) (pos 0) ≡ holder g (inf false) (pos 0) (nonzeros levels)
 
--- g is the local cost by level for `prev` 0, h for `prev` 1
-pub record Located (g h : ℤ → Float) (levels : List ℤ) (l : Locals) : Type 0 where
-  pub first : Each g levels (l .first)
-  pub second : Each h levels (l .second)
+-- g is the local cost by level for `prev` 0, h for `prev` 1, each in an array
+pub record Located (g h : ℤ → Float) (levels : List ℤ) (first second : List Float) (l : Locals) : Type 0 where
+  pub first-each : Each g levels first
+  pub second-each : Each h levels second
   pub least-first : FirstLeast g levels (l .«least_first»)
   pub least-second : FirstLeast h levels (l .«least_second»)
   pub zero-first : hasZero levels ≡ true → l .«zero_first» ≡ g (pos 0)
@@ -40,8 +40,6 @@ pub record Located (g h : ℤ → Float) (levels : List ℤ) (l : Locals) : Type
 
 -- before any level was noted
 pub record Empty (l : Locals) : Type 0 where
-  pub first : length (l .first) ≡ 5
-  pub second : length (l .second) ≡ 5
   pub least-first : l .«least_first» ≡ nothing
   pub least-second : l .«least_second» ≡ nothing
 
@@ -50,8 +48,6 @@ unfoldable pub noted : Locals → ℕ → ℤ → Float → Float → Locals
 noted l j level x y =
     let zero = eqb (nz level) 0 in
     record {
-      first = set (l .first) j x;
-      second = set (l .second) j y;
       «least_first» = cond zero (l .«least_first») (considered (l .«least_first») x j);
       «least_second» = cond zero (l .«least_second») (considered (l .«least_second») y j);
       «zero_first» = cond zero x (l .«zero_first»);

@@ -80,8 +80,8 @@ pub record Workable (book : Book) (x : Place) (c : Candidates) (next : List Floa
   pub tails : (r p : ℕ) → s .from ≤ r → r ≤ s .upto → p ≤ 1 → T (cost (getD next (2 * (r - s .base) + p) nan))
 
 -- what a count's two states are worked out from: the local costs in its context, and the index of 0 among the candidates
-pub record Ready (book : Book) (x : Place) (c : Candidates) (next : List Float) (s : Span) (l : Locals) (zero r : ℕ) : Type 0 where
+pub record Ready (book : Book) (x : Place) (c : Candidates) (next : List Float) (s : Span) (first second : List Float) (l : Locals) (zero r : ℕ) : Type 0 where
   pub work : Workable book x c next s r
-  pub located : Located (localAt book x r 0) (localAt book x r 1) (listed c) l
+  pub located : Located (localAt book x r 0) (localAt book x r 1) (listed c) first second l
   pub zero-at : ZeroAt (listed c) zero
   pub zero-none : hasZero (listed c) ≡ false → zero ≡ 255

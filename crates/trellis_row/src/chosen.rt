@@ -1,6 +1,5 @@
 // The level of one state.
 use crate::locals::Least;
-use candidates::Candidates;
 ghost use mathlib.Core.Path.{_≡_};
 ghost use mathlib.Core.Bool.{true, false, cond};
 ghost use Prim.Native.Nat.{_<_};
@@ -10,6 +9,7 @@ ghost use lib.Dec.{T};
 ghost use mathlib.Core.List.{List·Memᴰ};
 ghost use lib.Ieee.{Float, inf, lt, add, binary32};
 ghost use lib.Ieee.Scale.{finite};
+ghost use Rattle.candidates.specs.Candidates.{inArray};
 ghost use Rattle.costs.specs.Cost.{cost as isCost};
 ghost use Rattle.least_cost.specs.Search.{holder, nonzeros, hasZero};
 ghost use Rattle.least_cost.specs.Factored.{firstEqual};
@@ -31,14 +31,20 @@ fn ties(level: i32, local: f32, tail: f32, cost: f32) -> bool
 }
 
 // The first nonzero candidate whose cost with the tail is `cost`, else `other`.
-fn first_tied(candidates: Candidates, local: [f32; 5], tail: f32, cost: f32, other: u8) -> u8
-    requires { ⌜ Usable candidates ⌝ }
-    ensures { λ r. ⌜ ((g : ℤ → Float) → Each g (listed candidates) local → getD (listed candidates) r (pos 0) ≡ firstEqual (with g tail) cost (getD (listed candidates) other (pos 0)) (nonzeros (listed candidates))) ⌝ }
+fn first_tied(
+    levels: &[i32; 5],
+    count: usize,
+    local: &[f32; 5],
+    tail: f32,
+    cost: f32,
+    other: u8,
+) -> u8
+    requires { ⌜ Usable (inArray count (now levels)) ⌝ }
+    ensures { λ r. ⌜ ((g : ℤ → Float) → Each g (listed (inArray count (now (levels .entry)))) (now (local .entry)) → getD (listed (inArray count (now (levels .entry)))) r (pos 0) ≡ firstEqual (with g tail) cost (getD (listed (inArray count (now (levels .entry)))) other (pos 0)) (nonzeros (listed (inArray count (now (levels .entry)))))) ⌝ }
 {
-    let count = candidates.count;
     let mut j = 0;
     while j < count {
-        if ties(candidates.levels[j], local[j], tail, cost) {
+        if ties(levels[j], local[j], tail, cost) {
             return j as u8;
         }
         j += 1;
@@ -47,15 +53,14 @@ fn first_tied(candidates: Candidates, local: [f32; 5], tail: f32, cost: f32, oth
 }
 
 // The index of 0 among the candidates, or 255.
-pub fn zero_index(candidates: Candidates) -> u8
-    requires { ⌜ Usable candidates ⌝ }
-    ensures { λ r. ⌜ ZeroAt (listed candidates) r ⌝ }
-    ensures { λ r. ⌜ (hasZero (listed candidates) ≡ false → r ≡ 255) ⌝ }
+pub fn zero_index(levels: &[i32; 5], count: usize) -> u8
+    requires { ⌜ Usable (inArray count (now levels)) ⌝ }
+    ensures { λ r. ⌜ ZeroAt (listed (inArray count (now (levels .entry)))) r ⌝ }
+    ensures { λ r. ⌜ (hasZero (listed (inArray count (now (levels .entry)))) ≡ false → r ≡ 255) ⌝ }
 {
-    let count = candidates.count;
     let mut j = 0;
     while j < count {
-        if candidates.levels[j] == 0 {
+        if levels[j] == 0 {
             return j as u8;
         }
         j += 1;
@@ -64,13 +69,20 @@ pub fn zero_index(candidates: Candidates) -> u8
 }
 
 // The choice among the nonzero candidates: adding the tail may round different local costs to the same sum, and then the earliest stays.
-fn nonzero_choice(candidates: Candidates, local: [f32; 5], least: Least, tail: f32, cost: f32) -> u8
-    requires { ⌜ Usable candidates ⌝ }
-    ensures { λ r. ⌜ ((g : ℤ → Float) → Each g (listed candidates) local → FirstLeast g (listed candidates) least → ((c : ℤ) → List·Memᴰ c (listed candidates) → T (isCost (g c)))
-        → T (isCost tail) → cost ≡ add binary32 (least .cost) tail → T (finite cost) → getD (listed candidates) r (pos 0) ≡ holder (with g tail) (inf false) (pos 0) (nonzeros (listed candidates))) ⌝ }
+fn nonzero_choice(
+    levels: &[i32; 5],
+    count: usize,
+    local: &[f32; 5],
+    least: Least,
+    tail: f32,
+    cost: f32,
+) -> u8
+    requires { ⌜ Usable (inArray count (now levels)) ⌝ }
+    ensures { λ r. ⌜ ((g : ℤ → Float) → Each g (listed (inArray count (now (levels .entry)))) (now (local .entry)) → FirstLeast g (listed (inArray count (now (levels .entry)))) least → ((c : ℤ) → List·Memᴰ c (listed (inArray count (now (levels .entry)))) → T (isCost (g c)))
+        → T (isCost tail) → cost ≡ add binary32 (least .cost) tail → T (finite cost) → getD (listed (inArray count (now (levels .entry)))) r (pos 0) ≡ holder (with g tail) (inf false) (pos 0) (nonzeros (listed (inArray count (now (levels .entry)))))) ⌝ }
 {
     if least.before + tail == cost {
-        return first_tied(candidates, local, tail, cost, least.choice);
+        return first_tied(levels, count, local, tail, cost, least.choice);
     }
     least.choice
 }
@@ -88,17 +100,18 @@ fn with_tail(local: f32, tail: f32) -> f32
 
 // The least cost of a state, and its candidate's index where that is finite. `zero` is the local cost of 0 and `zero_index` its index.
 pub fn choose(
-    candidates: Candidates,
-    local: [f32; 5],
+    levels: &[i32; 5],
+    count: usize,
+    local: &[f32; 5],
     least: Least,
     zero: f32,
     zero_index: u8,
     nonzero_tail: f32,
     zero_tail: f32,
 ) -> Chosen
-    requires { ⌜ Usable candidates ⌝ }
-    ensures { λ r. ⌜ ((g : ℤ → Float) → Known g (listed candidates) local least zero → ZeroAt (listed candidates) «zero_index» → T (isCost «nonzero_tail») → T (isCost «zero_tail»)
-        → (hasZero (listed candidates) ≡ false → «zero_tail» ≡ inf false) → Settled g «nonzero_tail» «zero_tail» (listed candidates) r) ⌝ }
+    requires { ⌜ Usable (inArray count (now levels)) ⌝ }
+    ensures { λ r. ⌜ ((g : ℤ → Float) → Known g (listed (inArray count (now (levels .entry)))) (now (local .entry)) least zero → ZeroAt (listed (inArray count (now (levels .entry)))) «zero_index» → T (isCost «nonzero_tail») → T (isCost «zero_tail»)
+        → (hasZero (listed (inArray count (now (levels .entry)))) ≡ false → «zero_tail» ≡ inf false) → Settled g «nonzero_tail» «zero_tail» (listed (inArray count (now (levels .entry)))) r) ⌝ }
 {
     let cost = least.cost + nonzero_tail;
     let zero_cost = with_tail(zero, zero_tail);
@@ -110,6 +123,6 @@ pub fn choose(
     }
     Chosen {
         cost,
-        choice: nonzero_choice(candidates, local, least, nonzero_tail, cost),
+        choice: nonzero_choice(levels, count, local, least, nonzero_tail, cost),
     }
 }

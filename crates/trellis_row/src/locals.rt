@@ -1,10 +1,10 @@
 // Local costs, worked out once for all counts that share a context.
-use candidates::Candidates;
 use steps::Place;
 ghost use mathlib.Core.Path.{_≡_};
 ghost use Prim.Native.Nat.{_+_, _<_, _≤_};
 ghost use lib.ListN.{length, getD};
 ghost use lib.IntN.{pos};
+ghost use Rattle.candidates.specs.Candidates.{inArray};
 ghost use Rattle.prices.specs.Book.{bookOf};
 ghost use Rattle.prices.specs.Checks.{bookRefusal};
 ghost use Rattle.steps.specs.Place.{distortionAt, localIn};
@@ -17,10 +17,8 @@ pub struct Least {
     pub choice: u8,
 }
 
-// The local costs of the candidates for `prev` 0 and 1, the first least among the nonzero ones, and those of 0.
+// Of the local costs for `prev` 0 and 1, which stand in two arrays: the first least among those of nonzero candidates, and those of 0.
 pub struct Locals {
-    pub first: [f32; 5],
-    pub second: [f32; 5],
     pub least_first: Least,
     pub least_second: Least,
     pub zero_first: f32,
@@ -57,8 +55,6 @@ impl Locals {
         ensures { λ r. ⌜ Empty r ⌝ }
     {
         Locals {
-            first: [0.0f32; 5],
-            second: [0.0f32; 5],
             least_first: Least::none(),
             least_second: Least::none(),
             zero_first: costs::infinity(),
@@ -67,26 +63,29 @@ impl Locals {
     }
 
     fn note(self, j: usize, level: i32, first: f32, second: f32) -> Locals
-        requires { ⌜ (j < 5) × ((length (self .first) ≡ 5) × (length (self .second) ≡ 5)) ⌝ }
+        requires { ⌜ j < 5 ⌝ }
         ensures { λ r. ⌜ r ≡ noted self j level first second ⌝ }
     {
-        let mut locals = self;
-        locals.first[j] = first;
-        locals.second[j] = second;
-        if level == 0 {
-            locals.zero_first = first;
-            locals.zero_second = second;
-            return locals;
-        }
         let least_first = self.least_first;
         let least_second = self.least_second;
-        locals.least_first = least_first.consider(first, j as u8);
-        locals.least_second = least_second.consider(second, j as u8);
-        locals
+        if level == 0 {
+            return Locals {
+                least_first,
+                least_second,
+                zero_first: first,
+                zero_second: second,
+            };
+        }
+        Locals {
+            least_first: least_first.consider(first, j as u8),
+            least_second: least_second.consider(second, j as u8),
+            zero_first: self.zero_first,
+            zero_second: self.zero_second,
+        }
     }
 }
 
-// The local costs in one context, their distortions at hand.
+// The local costs in one context, their distortions at hand: in `first` for `prev` 0, in `second` for `prev` 1. Lent, they are not copied.
 pub fn locals_in(
     clusters: u32,
     map: &[u8],
@@ -94,23 +93,27 @@ pub fn locals_in(
     symbols: &[f32],
     ready: &[f32],
     place: Place,
-    candidates: Candidates,
-    distortion: [f32; 5],
+    levels: &[i32; 5],
+    count: usize,
+    distortion: &[f32; 5],
     context: usize,
+    first: &mut [f32; 5],
+    second: &mut [f32; 5],
 ) -> Locals
     requires { ⌜ bookRefusal (bookOf clusters (now map) (now configs) (now symbols) (now ready)) ≡ 0 ⌝ }
     requires { ⌜ context + 1 < 14850 ⌝ }
-    requires { ⌜ Usable candidates ⌝ }
-    requires { ⌜ Each (distortionAt place) (listed candidates) distortion ⌝ }
+    requires { ⌜ Usable (inArray count (now levels)) ⌝ }
+    requires { ⌜ Each (distortionAt place) (listed (inArray count (now levels))) (now distortion) ⌝ }
+    requires { ⌜ (length (now first) ≡ 5) × (length (now second) ≡ 5) ⌝ }
     ensures { λ r. ⌜ Located (localIn (bookOf clusters (now (map .entry)) (now (configs .entry)) (now (symbols .entry)) (now (ready .entry))) place context 0)
         (localIn (bookOf clusters (now (map .entry)) (now (configs .entry)) (now (symbols .entry)) (now (ready .entry))) place context 1)
-        (listed candidates) r ⌝ }
+        (listed (inArray count (now (levels .entry)))) (now (first .exit)) (now (second .exit)) r ⌝ }
+    ensures { λ _. ⌜ (length (now (first .exit)) ≡ 5) × (length (now (second .exit)) ≡ 5) ⌝ }
 {
-    let count = candidates.count;
     let mut locals = Locals::none();
     let mut j = 0;
     while j < count {
-        let level = candidates.levels[j];
+        let level = levels[j];
         let pair = place.local_pair(
             clusters,
             map,
@@ -121,6 +124,8 @@ pub fn locals_in(
             level,
             distortion[j],
         );
+        first[j] = pair.first;
+        second[j] = pair.second;
         locals = locals.note(j, level, pair.first, pair.second);
         j += 1;
     }

@@ -3,7 +3,6 @@ use crate::chosen;
 use crate::chosen::Chosen;
 use crate::locals;
 use crate::locals::Locals;
-use candidates::Candidates;
 use steps::Place;
 ghost use mathlib.Core.Path.{_≡_};
 ghost use mathlib.Core.Bool.{true, false};
@@ -13,6 +12,7 @@ ghost use lib.IntN.{ℤ, pos};
 ghost use lib.Dec.{T};
 ghost use lib.Ieee.{Float, inf, lt};
 ghost use mathlib.Core.List.{List·Memᴰ};
+ghost use Rattle.candidates.specs.Candidates.{inArray};
 ghost use Rattle.costs.specs.Cost.{cost as isCost};
 ghost use Rattle.least_cost.specs.Search.{hasZero};
 ghost use Rattle.prices.specs.Book.{Book, bookOf};
@@ -71,24 +71,26 @@ fn zero_tail(next: &[f32], span: Span, r: usize, zero: u8) -> f32
 
 // The two states of a count, what follows at hand.
 fn settle(
-    candidates: Candidates,
+    levels: &[i32; 5],
+    count: usize,
+    first: &[f32; 5],
+    second: &[f32; 5],
     locals: Locals,
     zero: u8,
     nonzero_tail: f32,
     zero_tail: f32,
 ) -> States
-    requires { ⌜ Usable candidates ⌝ }
-    ensures { λ r. ⌜ ((g h : ℤ → Float) → Located g h (listed candidates) locals → ((q : ℤ) → List·Memᴰ q (listed candidates) → T (isCost (g q))) → ((q : ℤ) → List·Memᴰ q (listed candidates) → T (isCost (h q)))
-        → ZeroAt (listed candidates) zero → T (isCost «nonzero_tail») → T (isCost «zero_tail») → (hasZero (listed candidates) ≡ false → «zero_tail» ≡ inf false)
-        → (Settled g «nonzero_tail» «zero_tail» (listed candidates) (r .first)) × (Settled h «nonzero_tail» «zero_tail» (listed candidates) (r .second))) ⌝ }
+    requires { ⌜ Usable (inArray count (now levels)) ⌝ }
+    ensures { λ r. ⌜ ((g h : ℤ → Float) → Located g h (listed (inArray count (now (levels .entry)))) (now (first .entry)) (now (second .entry)) locals → ((q : ℤ) → List·Memᴰ q (listed (inArray count (now (levels .entry)))) → T (isCost (g q))) → ((q : ℤ) → List·Memᴰ q (listed (inArray count (now (levels .entry)))) → T (isCost (h q)))
+        → ZeroAt (listed (inArray count (now (levels .entry)))) zero → T (isCost «nonzero_tail») → T (isCost «zero_tail») → (hasZero (listed (inArray count (now (levels .entry)))) ≡ false → «zero_tail» ≡ inf false)
+        → (Settled g «nonzero_tail» «zero_tail» (listed (inArray count (now (levels .entry)))) (r .first)) × (Settled h «nonzero_tail» «zero_tail» (listed (inArray count (now (levels .entry)))) (r .second))) ⌝ }
 {
-    let first = locals.first;
-    let second = locals.second;
     let least_first = locals.least_first;
     let least_second = locals.least_second;
     States {
         first: chosen::choose(
-            candidates,
+            levels,
+            count,
             first,
             least_first,
             locals.zero_first,
@@ -97,7 +99,8 @@ fn settle(
             zero_tail,
         ),
         second: chosen::choose(
-            candidates,
+            levels,
+            count,
             second,
             least_second,
             locals.zero_second,
@@ -150,7 +153,10 @@ pub fn unreachable() -> States
 
 // The two states of count `r`, written behind those of the counts from `least` on.
 fn row_state(
-    candidates: Candidates,
+    levels: &[i32; 5],
+    count: usize,
+    first: &[f32; 5],
+    second: &[f32; 5],
     locals: Locals,
     zero: u8,
     next: &[f32],
@@ -161,14 +167,14 @@ fn row_state(
     least: usize,
     r: usize,
 )
-    requires { ⌜ Usable candidates ⌝ }
+    requires { ⌜ Usable (inArray count (now levels)) ⌝ }
     requires { ⌜ (span .base ≤ span .from) × (span .from ≤ span .upto → 2 * (span .upto - span .base) + 1 < length (now next)) ⌝ }
     requires { ⌜ (least ≤ r) × ((2 * (r - least) + 1 < length (now current)) × (at + 2 * (r - least) + 1 < length (now choices))) ⌝ }
     ensures { λ _. ⌜ length (now (current .exit)) ≡ length (now (current .entry)) ⌝ }
     ensures { λ _. ⌜ Elsewhere (at + 2 * (r - least)) 2 (now (choices .entry)) (now (choices .exit)) ⌝ }
-    ensures { λ _. ⌜ ((book : Book) (x : Place) → Ready book x candidates (now (next .entry)) span locals zero r
-        → RowIs book x (listed candidates) (now (next .entry)) span least at (2 * (r - least)) (now (current .entry)) (now (choices .entry))
-        → RowIs book x (listed candidates) (now (next .entry)) span least at (2 * (r - least) + 2) (now (current .exit)) (now (choices .exit))) ⌝ }
+    ensures { λ _. ⌜ ((book : Book) (x : Place) → Ready book x (inArray count (now (levels .entry))) (now (next .entry)) span (now (first .entry)) (now (second .entry)) locals zero r
+        → RowIs book x (listed (inArray count (now (levels .entry)))) (now (next .entry)) span least at (2 * (r - least)) (now (current .entry)) (now (choices .entry))
+        → RowIs book x (listed (inArray count (now (levels .entry)))) (now (next .entry)) span least at (2 * (r - least) + 2) (now (current .exit)) (now (choices .exit))) ⌝ }
 {
     let x = nonzero_tail(next, span, r);
     let z = zero_tail(next, span, r, zero);
@@ -182,7 +188,7 @@ fn row_state(
         choices,
         i,
         at,
-        settle(candidates, locals, zero, x, z),
+        settle(levels, count, first, second, locals, zero, x, z),
     );
 }
 
@@ -204,7 +210,10 @@ pub fn run_end(place: Place, context: usize, from: usize, most: usize) -> usize
 
 // The states of the counts from `from` to `upto`, which share their local costs.
 fn fill_run(
-    candidates: Candidates,
+    levels: &[i32; 5],
+    count: usize,
+    first: &[f32; 5],
+    second: &[f32; 5],
     locals: Locals,
     zero: u8,
     next: &[f32],
@@ -216,20 +225,23 @@ fn fill_run(
     from: usize,
     upto: usize,
 )
-    requires { ⌜ Usable candidates ⌝ }
+    requires { ⌜ Usable (inArray count (now levels)) ⌝ }
     requires { ⌜ (span .base ≤ span .from) × (span .from ≤ span .upto → 2 * (span .upto - span .base) + 1 < length (now next)) ⌝ }
     requires { ⌜ (least ≤ from) × ((from ≤ upto) × (upto ≤ 131072)) ⌝ }
     requires { ⌜ (2 * (upto - least) + 1 < length (now current)) × (at + 2 * (upto - least) + 1 < length (now choices)) ⌝ }
     ensures { λ _. ⌜ length (now (current .exit)) ≡ length (now (current .entry)) ⌝ }
     ensures { λ _. ⌜ Elsewhere (at + 2 * (from - least)) (2 * (upto + 1 - from)) (now (choices .entry)) (now (choices .exit)) ⌝ }
-    ensures { λ _. ⌜ ((book : Book) (x : Place) → ((r : ℕ) → from ≤ r → r ≤ upto → Ready book x candidates (now (next .entry)) span locals zero r)
-        → RowIs book x (listed candidates) (now (next .entry)) span least at (2 * (from - least)) (now (current .entry)) (now (choices .entry))
-        → RowIs book x (listed candidates) (now (next .entry)) span least at (2 * (upto + 1 - least)) (now (current .exit)) (now (choices .exit))) ⌝ }
+    ensures { λ _. ⌜ ((book : Book) (x : Place) → ((r : ℕ) → from ≤ r → r ≤ upto → Ready book x (inArray count (now (levels .entry))) (now (next .entry)) span (now (first .entry)) (now (second .entry)) locals zero r)
+        → RowIs book x (listed (inArray count (now (levels .entry)))) (now (next .entry)) span least at (2 * (from - least)) (now (current .entry)) (now (choices .entry))
+        → RowIs book x (listed (inArray count (now (levels .entry)))) (now (next .entry)) span least at (2 * (upto + 1 - least)) (now (current .exit)) (now (choices .exit))) ⌝ }
 {
     let mut r = from;
     while r <= upto {
         row_state(
-            candidates,
+            levels,
+            count,
+            first,
+            second,
             locals,
             zero,
             next,
@@ -245,7 +257,7 @@ fn fill_run(
 }
 
 // The states of the counts from `least` to `most`: their costs from the front of `current`, their choices from `at` on. Counts that
-// share a context share their local costs.
+// share a context share their local costs, which are worked out from the first of them that something finite follows.
 pub fn fill_row(
     clusters: u32,
     map: &[u8],
@@ -253,7 +265,8 @@ pub fn fill_row(
     symbols: &[f32],
     ready: &[f32],
     place: Place,
-    candidates: Candidates,
+    levels: &[i32; 5],
+    count: usize,
     next: &[f32],
     span: Span,
     current: &mut [f32],
@@ -262,16 +275,26 @@ pub fn fill_row(
     least: usize,
     most: usize,
 )
-    requires { ⌜ Workable (bookOf clusters (now map) (now configs) (now symbols) (now ready)) place candidates (now next) span most ⌝ }
+    requires { ⌜ Workable (bookOf clusters (now map) (now configs) (now symbols) (now ready)) place (inArray count (now levels)) (now next) span most ⌝ }
     requires { ⌜ (least ≤ most) × ((2 * (most - least) + 1 < length (now current)) × (at + 2 * (most - least) + 1 < length (now choices))) ⌝ }
     ensures { λ s. ⌜ length (now (current .exit)) ≡ length (now (current .entry)) ⌝ }
     ensures { λ s. ⌜ Elsewhere at (2 * (most + 1 - least)) (now (choices .entry)) (now (choices .exit)) ⌝ }
-    ensures { λ s. ⌜ RowIs (bookOf clusters (now (map .entry)) (now (configs .entry)) (now (symbols .entry)) (now (ready .entry))) place (listed candidates) (now (next .entry)) span least at (2 * (most + 1 - least)) (now (current .exit)) (now (choices .exit)) ⌝ }
+    ensures { λ s. ⌜ RowIs (bookOf clusters (now (map .entry)) (now (configs .entry)) (now (symbols .entry)) (now (ready .entry))) place (listed (inArray count (now (levels .entry)))) (now (next .entry)) span least at (2 * (most + 1 - least)) (now (current .exit)) (now (choices .exit)) ⌝ }
 {
-    let distortion = steps::reading::distortions(place, candidates);
-    let zero = chosen::zero_index(candidates);
+    let mut distortion = [0.0f32; 5];
+    let mut first = [0.0f32; 5];
+    let mut second = [0.0f32; 5];
+    steps::reading::distortions(place, levels, count, &mut distortion);
+    let zero = chosen::zero_index(levels, count);
     let mut r = least;
     while r <= most {
+        let x = nonzero_tail(next, span, r);
+        let z = zero_tail(next, span, r, zero);
+        if infinite(x, z) {
+            write_pair(current, choices, 2 * (r - least), at, unreachable());
+            r += 1;
+            continue;
+        }
         let context = place.context(r);
         let locals = locals::locals_in(
             clusters,
@@ -280,13 +303,19 @@ pub fn fill_row(
             symbols,
             ready,
             place,
-            candidates,
-            distortion,
+            levels,
+            count,
+            &distortion,
             context,
+            &mut first,
+            &mut second,
         );
         let end = run_end(place, context, r, most);
         fill_run(
-            candidates,
+            levels,
+            count,
+            &first,
+            &second,
             locals,
             zero,
             next,

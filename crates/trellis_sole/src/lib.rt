@@ -1,5 +1,4 @@
 // A row of the trellis where the position has one candidate: each count has one way on, so nothing is chosen. `fill_row` takes any position.
-use candidates::Candidates;
 use prices::Pair;
 use steps::Place;
 use trellis_row::chosen::Chosen;
@@ -12,6 +11,7 @@ ghost use Prim.Native.Nat.{ℕ, _+_, _-_, _*_, _<_, _≤_};
 ghost use lib.Dec.{T};
 ghost use lib.ListN.{length};
 ghost use Rattle.bias.specs.Level.{isLevel};
+ghost use Rattle.candidates.specs.Candidates.{inArray};
 ghost use Rattle.prices.specs.Book.{Book, bookOf};
 ghost use Rattle.prices.specs.Checks.{bookRefusal};
 ghost use Rattle.trellis_row.specs.Locals.{listed};
@@ -151,7 +151,8 @@ fn fill_sole(
     symbols: &[f32],
     ready: &[f32],
     place: Place,
-    candidates: Candidates,
+    levels: &[i32; 5],
+    count: usize,
     next: &[f32],
     span: Span,
     current: &mut [f32],
@@ -160,14 +161,14 @@ fn fill_sole(
     least: usize,
     most: usize,
 )
-    requires { ⌜ Workable (bookOf clusters (now map) (now configs) (now symbols) (now ready)) place candidates (now next) span most ⌝ }
-    requires { ⌜ candidates .count ≡ 1 ⌝ }
+    requires { ⌜ Workable (bookOf clusters (now map) (now configs) (now symbols) (now ready)) place (inArray count (now levels)) (now next) span most ⌝ }
+    requires { ⌜ count ≡ 1 ⌝ }
     requires { ⌜ (least ≤ most) × ((2 * (most - least) + 1 < length (now current)) × (at + 2 * (most - least) + 1 < length (now choices))) ⌝ }
     ensures { λ s. ⌜ length (now (current .exit)) ≡ length (now (current .entry)) ⌝ }
     ensures { λ s. ⌜ Elsewhere at (2 * (most + 1 - least)) (now (choices .entry)) (now (choices .exit)) ⌝ }
-    ensures { λ s. ⌜ RowIs (bookOf clusters (now (map .entry)) (now (configs .entry)) (now (symbols .entry)) (now (ready .entry))) place (listed candidates) (now (next .entry)) span least at (2 * (most + 1 - least)) (now (current .exit)) (now (choices .exit)) ⌝ }
+    ensures { λ s. ⌜ RowIs (bookOf clusters (now (map .entry)) (now (configs .entry)) (now (symbols .entry)) (now (ready .entry))) place (listed (inArray count (now (levels .entry)))) (now (next .entry)) span least at (2 * (most + 1 - least)) (now (current .exit)) (now (choices .exit)) ⌝ }
 {
-    let level = candidates.levels[0];
+    let level = levels[0];
     let distortion = place.distortion(level);
     let mut r = least;
     while r <= most {
@@ -208,7 +209,8 @@ pub fn fill_row(
     symbols: &[f32],
     ready: &[f32],
     place: Place,
-    candidates: Candidates,
+    levels: &[i32; 5],
+    count: usize,
     next: &[f32],
     span: Span,
     current: &mut [f32],
@@ -217,13 +219,13 @@ pub fn fill_row(
     least: usize,
     most: usize,
 )
-    requires { ⌜ Workable (bookOf clusters (now map) (now configs) (now symbols) (now ready)) place candidates (now next) span most ⌝ }
+    requires { ⌜ Workable (bookOf clusters (now map) (now configs) (now symbols) (now ready)) place (inArray count (now levels)) (now next) span most ⌝ }
     requires { ⌜ (least ≤ most) × ((2 * (most - least) + 1 < length (now current)) × (at + 2 * (most - least) + 1 < length (now choices))) ⌝ }
     ensures { λ s. ⌜ length (now (current .exit)) ≡ length (now (current .entry)) ⌝ }
     ensures { λ s. ⌜ Elsewhere at (2 * (most + 1 - least)) (now (choices .entry)) (now (choices .exit)) ⌝ }
-    ensures { λ s. ⌜ RowIs (bookOf clusters (now (map .entry)) (now (configs .entry)) (now (symbols .entry)) (now (ready .entry))) place (listed candidates) (now (next .entry)) span least at (2 * (most + 1 - least)) (now (current .exit)) (now (choices .exit)) ⌝ }
+    ensures { λ s. ⌜ RowIs (bookOf clusters (now (map .entry)) (now (configs .entry)) (now (symbols .entry)) (now (ready .entry))) place (listed (inArray count (now (levels .entry)))) (now (next .entry)) span least at (2 * (most + 1 - least)) (now (current .exit)) (now (choices .exit)) ⌝ }
 {
-    if candidates.count == 1 {
+    if count == 1 {
         fill_sole(
             clusters,
             map,
@@ -231,7 +233,8 @@ pub fn fill_row(
             symbols,
             ready,
             place,
-            candidates,
+            levels,
+            count,
             next,
             span,
             current,
@@ -249,7 +252,8 @@ pub fn fill_row(
         symbols,
         ready,
         place,
-        candidates,
+        levels,
+        count,
         next,
         span,
         current,

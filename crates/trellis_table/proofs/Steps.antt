@@ -15,7 +15,7 @@ use Rattle.ac_context.specs.Contexts.{Covered}
 use Rattle.block.specs.Block.{Block, covered, inputAt, nonzerosAmong, inputRemaining, candidatesAt}
 use Rattle.block.specs.Band.{positionAt, positionsFrom, tailOf, pastWindow, inputAfter, halfWidth}
 use Rattle.block.specs.Cost.{localCost}
-use Rattle.candidates.specs.Candidates.{isCurrent}
+use Rattle.candidates.specs.Candidates.{inArray, isCurrent}
 use Rattle.block_checks.specs.Passed.{Passed}
 use Rattle.block_checks.proofs.Laws.{passed}
 use Rattle.block_checks.proofs.Reading.{readable, small-position}
@@ -32,10 +32,10 @@ use Rattle.problem.proofs.Problem.{all-priced, past-most, positions-length, amo
 use Rattle.problem.specs.Tokens.{pastLength}
 use Rattle.scan.specs.Scan.{levelAt}
 use Rattle.steps.specs.Place.{placeOf, localAt}
-use Rattle.steps.specs.Plan.{Planned, Coded, Readable, Spotted, Usable, listed}
+use Rattle.steps.specs.Plan.{Planned, Coded, Readable, Offered, Usable, listed}
 use Rattle.steps.specs.declared.Place.{Place}
 use Rattle.steps.specs.declared.reading.Plan.{Plan}
-use Rattle.steps.specs.declared.reading.Spot.{Spot}
+use Rattle.steps.specs.declared.reading.Offer.{Offer}
 use Rattle.steps.proofs.Counting.{among-first}
 use Rattle.steps.proofs.Local.{local-is}
 use Rattle.trellis_row.specs.Row.{nonzeroTail, RowIs, Elsewhere, Workable}
@@ -227,7 +227,7 @@ module _ {book : Book} {b : Block} {p : Plan} (K : Checked book b p) where
     narrow c e f = omega arith
 
     -- what a row is worked out from
-    module _ (spot : Spot) (S : Spotted b (p .log2) i spot) (U : Usable (spot .candidates)) (next : List Float) (n c : Counts) (s : Span) (R : RowAt book b (suc i) next n) (long : 28 ≤ length next)
+    module _ (place : Place) (offer : Offer) (offered : List ℤ) (S : Offered b i offer offered) (place-is : place ≡ placeOf b (p .log2) i) (U : Usable (inArray (offer .count) offered)) (next : List Float) (n c : Counts) (s : Span) (R : RowAt book b (suc i) next n) (long : 28 ≤ length next)
         (sb : s .base ≡ n .least) (sf : s .from ≡ max (inputRemaining b (covered b + suc i) - 6) (n .least)) (su : s .upto ≡ min (inputRemaining b (covered b + suc i) + 6) (n .most))
         (cl : c .least ≡ leastCount (pastWindow (windowOf (covered b)) b) (inputRemaining b (covered b + suc i)))
         (cm : c .most ≡ min (inputRemaining b (covered b + suc i) + 6) (pastWindow (windowOf (covered b)) b + (windowLength b - 1 - i)) + 1) where
@@ -244,17 +244,17 @@ module _ {book : Book} {b : Block} {p : Plan} (K : Checked book b p) where
       unfolding pastLength
       fits = room-left _ _ _ _ _ _ cm h (past-most (windowOf (covered b)) b) (P .window .fits)
 
-      pub working : Workable book (spot .place) (spot .candidates) next s (c .most)
+      pub working : Workable book place (inArray (offer .count) offered) next s (c .most)
       unfolding placeOf
       working =
           record {
             priced = K .book-passed;
             usable = U;
-            covers = rw (S .place-is, ← (K .planned .covered-is)) (K .planned .covers);
-            coded = rw (S .place-is) (omega arith);
-            left = rw (S .place-is) fits;
-            offset = rw (S .place-is, ← (K .planned .offset-is)) (K .coded .offset);
-            locals = λ r q z k Q m. rw (S .place-is) (subst⁻¹ (λ (y : Float). T (cost y)) (local-is book b (p .log2) i r q z Q) (local-cost i r q z h (subst (Mem z) (S .listed-is) m)));
+            covers = rw (place-is, ← (K .planned .covered-is)) (K .planned .covers);
+            coded = rw place-is (omega arith);
+            left = rw place-is fits;
+            offset = rw (place-is, ← (K .planned .offset-is)) (K .coded .offset);
+            locals = λ r q z k Q m. rw place-is (subst⁻¹ (λ (y : Float). T (cost y)) (local-is book b (p .log2) i r q z Q) (local-cost i r q z h (subst (Mem z) (S .listed-is) m)));
             starts = subst⁻¹ (λ (n' : ℕ). n' ≤ s .from) sb (C .row-lower);
             room = λ k. row-room _ _ _ _ _ sb (C .row-upper) (R .narrow) long;
             tails = tails;
@@ -267,23 +267,23 @@ module _ {book : Book} {b : Block} {p : Plan} (K : Checked book b p) where
       unfolding leastCount
       counts-some = let w = past-after i h in least-most _ _ _ _ _ cl cm (w .0) (w .1)
 
-      local : (r pr : ℕ) (z : ℤ) → pr ≤ 1 → localAt book (spot .place) r pr z ≡ position book b i .price r pr z
+      local : (r pr : ℕ) (z : ℤ) → pr ≤ 1 → localAt book place r pr z ≡ position book b i .price r pr z
       unfolding positionAt
-      local r pr z Q = ap (λ (x : Place). localAt book x r pr z) (S .place-is) ∙ local-is book b (p .log2) i r pr z Q
+      local r pr z Q = ap (λ (x : Place). localAt book x r pr z) place-is ∙ local-is book b (p .log2) i r pr z Q
 
       costs : (r pr : ℕ) (z : ℤ) → pr ≤ 1 → Mem z (position book b i .candidates) → T (cost (position book b i .price r pr z))
       unfolding positionAt
       costs r pr z Q m = local-cost i r pr z h m
 
-      listed-here : listed (spot .candidates) ≡ position book b i .candidates
+      listed-here : listed (inArray (offer .count) offered) ≡ position book b i .candidates
       unfolding positionAt
       listed-here = S .listed-is
 
       pub stepped : (row row' : List Float) (choices choices' : List ℕ) (after' : ℕ) → length row' ≡ length row → Elsewhere (28 * i) (2 * (c .most + 1 - c .least)) choices choices'
-          → RowIs book (spot .place) (listed (spot .candidates)) next s (c .least) (28 * i) (2 * (c .most + 1 - c .least)) row' choices'
-          → after' ≡ inputRemaining b (covered b + suc i) + nz (spot .level) → Stepped book b i row row' choices choices' (record { counts = c; after = after' })
+          → RowIs book place (listed (inArray (offer .count) offered)) next s (c .least) (28 * i) (2 * (c .most + 1 - c .least)) row' choices'
+          → after' ≡ inputRemaining b (covered b + suc i) + nz (offer .level) → Stepped book b i row row' choices choices' (record { counts = c; after = after' })
       stepped row row' choices choices' after' size E I e =
-          let J = subst (λ (l : List ℤ). RowIs book (spot .place) l next s (c .least) (28 * i) (2 * (c .most + 1 - c .least)) row' choices') listed-here I in
+          let J = subst (λ (l : List ℤ). RowIs book place l next s (c .least) (28 * i) (2 * (c .most + 1 - c .least)) row' choices') listed-here I in
           let Q = priced-cons i h in
           let dead : (r : ℕ) → T (cost (nonzeroTail next s r)) = λ r. nonzero-tail-cost working r in
           let inside = within-counts c cl cm in
@@ -291,20 +291,20 @@ module _ {book : Book} {b : Block} {p : Plan} (K : Checked book b p) where
             row-is =
                 record {
                   stands = subst⁻¹ (λ (l : List Position). RowFor (tail book b) l row' (c .least) (c .most)) (positions-cons i h)
-                      (row-for (tail book b) (position book b i) (positions book b (suc i)) Q next (n .least) (n .most) s C (R .stands) book (spot .place) local costs dead (c .least) (c .most) (28 * i) row' choices' J inside);
+                      (row-for (tail book b) (position book b i) (positions book b (suc i)) Q next (n .least) (n .most) s C (R .stands) book place local costs dead (c .least) (c .most) (28 * i) row' choices' J inside);
                   narrow = counts-narrow;
                 };
             size = size;
             chosen = record {
               stands = subst (λ (l : ℕ). ChoicesFor (tail book b) (position book b i) (positions book b (suc i)) choices' (28 * i) l) cl
-                  (choices-for (tail book b) (position book b i) (positions book b (suc i)) Q next (n .least) (n .most) s C (R .stands) book (spot .place) local costs dead (c .least) (c .most) (28 * i) row' choices' J inside);
+                  (choices-for (tail book b) (position book b i) (positions book b (suc i)) Q next (n .least) (n .most) s C (R .stands) book place local costs dead (c .least) (c .most) (28 * i) row' choices' J inside);
             };
             elsewhere = wider E (row-width (c .least) (c .most) counts-narrow);
             after-is = e ∙ counted;
             counts-are = record { least = cl; most = cm };
           }
         where
-          counted : inputRemaining b (covered b + suc i) + nz (spot .level) ≡ inputRemaining b (covered b + i)
+          counted : inputRemaining b (covered b + suc i) + nz (offer .level) ≡ inputRemaining b (covered b + i)
           counted =
               let here = remaining-step (covered b + i) (inner (covered b) (windowLength b) i h (P .window .fits)) in
               let same : suc (covered b + i) ≡ covered b + suc i = omega arith in

@@ -111,12 +111,12 @@ pub fn take_position(
     requires { ⌜ (28 ≤ length (now next)) × ((28 ≤ length (now current)) × (28 * i + 28 ≤ length (now choices))) ⌝ }
     ensures { λ r. ⌜ Stepped (bookOf clusters (now (map .entry)) (now (configs .entry)) (now (symbols .entry)) (now (ready .entry))) (blockOf shape settings bias scale (now (scan .entry)) (now (source .entry)) (now («inv_qm» .entry)) (now (levels .entry))) i (now (current .entry)) (now (current .exit)) (now (choices .entry)) (now (choices .exit)) r ⌝ }
 {
-    let spot = plan.spot(scan, source, inv_qm, levels, i);
+    let mut offered = [0i32; 5];
+    let offer = plan.offer(scan, source, inv_qm, levels, i, &mut offered);
+    let place = plan.place(i, offer.ideal, offer.level);
     let window = plan.window;
     let counts = counts_of(past, after, window.length - 1 - i);
     let span = span_of(after, next_counts);
-    let place = spot.place;
-    let candidates = spot.candidates;
     trellis_sole::fill_row(
         clusters,
         map,
@@ -124,7 +124,8 @@ pub fn take_position(
         symbols,
         ready,
         place,
-        candidates,
+        &offered,
+        offer.count,
         next,
         span,
         current,
@@ -135,6 +136,6 @@ pub fn take_position(
     );
     Step {
         counts,
-        after: after + steps::nonzero(spot.level),
+        after: after + steps::nonzero(offer.level),
     }
 }

@@ -1,13 +1,9 @@
 use borrow.Author.Needs.{needs}
 use Rattle.trellis_sole.proofs.fill_row.Statement.{statement}
 use Rattle.trellis_sole.proofs.fill_row.Tie as tie
-use Rattle.trellis_sole.proofs.fill_row.Reads as reads
-use Rattle.trellis_sole.proofs.fill_row.Lts as lts
-use Rattle.trellis_row.proofs.row.fill_row.Reads as fill-row-reads
-use Rattle.trellis_sole.proofs.fill_sole.Reads as fill-sole-reads
 
 fill-sole-requires : tie.Need-fill-sole-requires
-fill-sole-requires c κs = (c .before .before .before .before .before .before .before .before .before .before .before .pre .0, (c .before .before .if1 .taken, c .before .before .before .before .before .before .before .before .before .before .before .pre .1))
+fill-sole-requires c κs = (c .before .before .before .before .before .before .before .before .before .before .pre .0, (c .before .before .if1 .taken, c .before .before .before .before .before .before .before .before .before .before .pre .1))
 
 same-length : tie.Need-same-length
 same-length c = c .before .before .before .before .fill-sole .ensures .0

@@ -16,11 +16,11 @@ use Rattle.trellis_sole.proofs.fill_sole.Statement.{statement}
 use Rattle.trellis_sole.proofs.fill_sole.Tie as tie
 
 abbrev Inv-loop : tie.InvT-loop
-Inv-loop clusters map configs symbols ready place next span current₀ choices₀ at least most level distortion r₀ current choices r =
+Inv-loop clusters map configs symbols ready place levels count next span current₀ choices₀ at least most level distortion r₀ current choices r =
     SoFar (bookOf clusters map configs symbols ready) place (toZ w32 level ∷ []) next span at least most r current₀ current choices₀ choices
 
 abbrev μ-loop : tie.MeasureT-loop
-μ-loop clusters map configs symbols ready place next span current₀ choices₀ at least most level distortion r₀ current choices r = most + 1 - r
+μ-loop clusters map configs symbols ready place levels count next span current₀ choices₀ at least most level distortion r₀ current choices r = most + 1 - r
 
 element-copy-out-level : tie.Need-element-copy-out-level Inv-loop μ-loop
 element-copy-out-level c = search needs

@@ -8,6 +8,7 @@ use lib.IntN.{ℤ, pos}
 use Rattle.steps.proofs.Listed.{usable-listed, listed-at, listed-length, listed-below}
 use Rattle.trellis_row.specs.Locals.{listed}
 use mathlib.Core.Path.{_≡_, _∙_, sym, ap}
+use Rattle.candidates.specs.Candidates.{inArray}
 use native.Mathlib.Omega.{arith}
 use Prim.Native.Nat.{ℕ, _≤_, _-_}
 use borrow.Author.Needs.{needs}
@@ -15,12 +16,13 @@ use Rattle.trellis_row.proofs.chosen.first_tied.Statement.{statement}
 use Rattle.trellis_row.proofs.chosen.first_tied.Tie as tie
 
 abbrev Inv-loop : tie.InvT-loop
-Inv-loop tail cost other candidates local count j₀ j =
-    (j ≤ candidates .count)
+Inv-loop levels count local tail cost other j₀ j =
+    let candidates = inArray count levels in
+    (j ≤ count)
     × ((g : ℤ → Float) → Each g (listed candidates) local → Untied g tail cost (getD (listed candidates) other (pos 0)) (listed candidates) j)
 
 abbrev μ-loop : tie.MeasureT-loop
-μ-loop tail cost other candidates local count j₀ j = candidates .count - j
+μ-loop levels count local tail cost other j₀ j = count - j
 
 loop-holds : tie.Need-loop-holds Inv-loop μ-loop
 loop-holds c = (search needs, λ g w. untied-none _ _ _ _ _)
@@ -34,8 +36,8 @@ element-copy-out-ties c = search needs
 mul-ties-2 : tie.Need-mul-ties-2 Inv-loop μ-loop
 mul-ties-2 c = search needs
 
-array-read-ties : tie.Need-array-read-ties Inv-loop μ-loop
-array-read-ties c = search needs
+element-copy-out-ties-2 : tie.Need-element-copy-out-ties-2 Inv-loop μ-loop
+element-copy-out-ties-2 c = search needs
 
 ties-requires : tie.Need-ties-requires Inv-loop μ-loop
 ties-requires c κs = search needs
@@ -46,7 +48,7 @@ cast-result c = search needs
 returns : tie.Need-returns Inv-loop μ-loop
 returns c =
     λ g each.
-    let in-loop = c .before .before .before in
+    let in-loop = c .before .before .before .before in
     let at-loop = in-loop .before in
     let usable = at-loop .before .pre in
     let here = in-loop .loop-test .taken in
@@ -64,7 +66,7 @@ loop-again : tie.Need-loop-again Inv-loop μ-loop
 loop-again c = (
   search needs,
   λ g each.
-      let in-loop = c .before .before .before in
+      let in-loop = c .before .before .before .before in
       let at-loop = in-loop .before in
       let usable = at-loop .before .pre in
       let here = in-loop .loop-test .taken in
@@ -77,7 +79,7 @@ returns-2 : tie.Need-returns-2 Inv-loop μ-loop
 returns-2 c =
     λ g each.
     let start = c .before .before in
-    let last : c .before .loop .j ≡ start .args .t1 .count = omega arith in
+    let last : c .before .loop .j ≡ start .args .count = omega arith in
     untied-all (rw (last ∙ sym (listed-length (start .pre))) at (c .before .loop .inv .1 g each))
 
 pub first-tied-spec : {M : Type 1} → statement M
@@ -90,7 +92,7 @@ first-tied-spec =
     mul-ties
     element-copy-out-ties
     mul-ties-2
-    array-read-ties
+    element-copy-out-ties-2
     ties-requires
     cast-result
     returns

@@ -4,6 +4,7 @@ use Rattle.trellis_row.proofs.Tying.{NoZero, zero-none, zero-more, zero
 use Rattle.steps.proofs.Listed.{listed-length, listed-below, listed-zero, listed-nonzero}
 use Rattle.trellis_row.specs.Locals.{listed}
 use mathlib.Core.Path.{_≡_, refl, _∙_, sym, ap}
+use Rattle.candidates.specs.Candidates.{inArray}
 use native.Mathlib.Omega.{arith}
 use Prim.Native.Nat.{ℕ, _≤_, _-_}
 use borrow.Author.Needs.{needs}
@@ -11,10 +12,10 @@ use Rattle.trellis_row.proofs.chosen.zero_index.Statement.{statement}
 use Rattle.trellis_row.proofs.chosen.zero_index.Tie as tie
 
 abbrev Inv-loop : tie.InvT-loop
-Inv-loop candidates count j₀ j = (j ≤ candidates .count) × NoZero (listed candidates) j
+Inv-loop levels count j₀ j = (j ≤ count) × NoZero (listed (inArray count levels)) j
 
 abbrev μ-loop : tie.MeasureT-loop
-μ-loop candidates count j₀ j = candidates .count - j
+μ-loop levels count j₀ j = count - j
 
 loop-holds : tie.Need-loop-holds Inv-loop μ-loop
 loop-holds c = (search needs, zero-none _)
@@ -54,7 +55,7 @@ loop-again c =
 returns-2 : tie.Need-returns-2 Inv-loop μ-loop
 returns-2 c =
     let start = c .before .before in
-    let last : c .before .loop .j ≡ start .args .t1 .count = omega arith in
+    let last : c .before .loop .j ≡ start .args .count = omega arith in
     let none = zero-all (rw (last ∙ sym (listed-length (start .pre))) at (c .before .loop .inv .1)) in
     (record { below = λ has. absurd (true≢false (sym has ∙ none)); zero = λ has. absurd (true≢false (sym has ∙ none)) }, λ _. refl)
 

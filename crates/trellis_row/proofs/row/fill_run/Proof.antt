@@ -1,6 +1,7 @@
 use Rattle.trellis_row.proofs.Rows.{Ran, ran-none, ran-more}
 use Rattle.trellis_row.specs.Locals.{listed}
 use Rattle.trellis_row.specs.Row.{Ready}
+use Rattle.candidates.specs.Candidates.{inArray}
 use native.Mathlib.Omega.{arith}
 use mathlib.Core.Path.{_≡_}
 use Prim.Native.Nat.{ℕ, _+_, _-_}
@@ -9,11 +10,12 @@ use Rattle.trellis_row.proofs.row.fill_run.Statement.{statement}
 use Rattle.trellis_row.proofs.row.fill_run.Tie as tie
 
 abbrev Inv-loop : tie.InvT-loop
-Inv-loop candidates locals zero next span current₀ choices₀ at least from upto r₀ current choices r =
-    Ran (λ book x n. Ready book x candidates next span locals zero n) (listed candidates) next span at least from upto r current₀ current choices₀ choices
+Inv-loop levels count first second locals zero next span current₀ choices₀ at least from upto r₀ current choices r =
+    let candidates = inArray count levels in
+    Ran (λ book x n. Ready book x candidates next span first second locals zero n) (listed candidates) next span at least from upto r current₀ current choices₀ choices
 
 abbrev μ-loop : tie.MeasureT-loop
-μ-loop candidates locals zero next span current₀ choices₀ at least from upto r₀ current choices r = upto + 1 - r
+μ-loop levels count first second locals zero next span current₀ choices₀ at least from upto r₀ current choices r = upto + 1 - r
 
 loop-holds : tie.Need-loop-holds Inv-loop μ-loop
 loop-holds c = ran-none _ _ _ _ _ _ _ _ _ _ (c .before .before .before .pre .1 .1 .0 .1 .0)

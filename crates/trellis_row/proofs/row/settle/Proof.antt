@@ -12,10 +12,10 @@ returns : tie.Need-returns
 returns c =
     λ g h located G H at X Z none. (
       c .before .choose .ensures g
-          (record { each = located .first; first = located .least-first; none = located .zero-first; costs = G })
+          (record { each = located .first-each; first = located .least-first; none = located .zero-first; costs = G })
           at X Z none,
       c .choose2 .ensures h
-          (record { each = located .second; first = located .least-second; none = located .zero-second; costs = H })
+          (record { each = located .second-each; first = located .least-second; none = located .zero-second; costs = H })
           at X Z none,
     )
 

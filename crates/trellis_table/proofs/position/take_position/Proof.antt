@@ -1,6 +1,6 @@
 use Rattle.least_cost.proofs.Trial.{nz-le}
 use Rattle.trellis_table.proofs.Steps.{lowest-is, highest-is, from-is, upto-is, room-of, space-of, sum-is, level-current}
-use Rattle.steps.proofs.Zero.{handed-back}
+use Rattle.steps.proofs.Zero.{handed-back, handed-current}
 use Rattle.trellis_table.specs.Rows.{leastCount}
 use Prim.Native.Nat.{max, min}
 use lib.ListN.{length}
@@ -14,47 +14,56 @@ use borrow.Author.Needs.{needs}
 use Rattle.trellis_table.proofs.position.take_position.Statement.{statement}
 use Rattle.trellis_table.proofs.position.take_position.Tie as tie
 
-spot-requires : tie.Need-spot-requires
-spot-requires c κs = let pre = c .before .before .before .before .before .before .before .before .before .before .pre in (readable-here (pre .0) _ (pre .1 .0), (base-few (pre .0), position-few (pre .0) _ (pre .1 .0)))
+offer-requires : tie.Need-offer-requires
+offer-requires c κs = let pre = c .before .before .before .before .before .before .before .before .before .before .before .pre in (readable-here (pre .0) _ (pre .1 .0), position-few (pre .0) _ (pre .1 .0))
+
+place-requires : tie.Need-place-requires
+place-requires c κs =
+    let pre = c .before .before .before .before .before .before .before .before .before .before .before .before .before .pre in
+    let K = pre .0 in
+    let offered = c .before .offer .ensures .0 _ (record { scan-is = refl; source-is = refl; inverse-is = refl; levels-is = refl }) (K .planned) in
+    (base-few K, (position-few K _ (pre .1 .0), handed-current _ _ (offered .level-is) (level-current K _ (pre .1 .0))))
 
 sub-counts-of : tie.Need-sub-counts-of
-sub-counts-of c = let pre = c .before .before .before .before .before .before .before .before .before .before .before .before .before .pre in omega (arith, window-is (pre .0), pre .1 .0)
+sub-counts-of c = let pre = c .before .before .before .before .before .before .before .before .before .before .before .before .before .before .before .before .pre in omega (arith, window-is (pre .0), pre .1 .0)
 
 sub-counts-of-2 : tie.Need-sub-counts-of-2
-sub-counts-of-2 c = let pre = c .before .before .before .before .before .before .before .before .before .before .before .before .before .pre in omega (arith, window-is (pre .0), pre .1 .0)
+sub-counts-of-2 c = let pre = c .before .before .before .before .before .before .before .before .before .before .before .before .before .before .before .before .pre in omega (arith, window-is (pre .0), pre .1 .0)
 
 counts-of-requires : tie.Need-counts-of-requires
 counts-of-requires c κs =
-    let pre = c .before .before .before .before .before .before .before .before .before .before .before .before .before .pre in
+    let pre = c .before .before .before .before .before .before .before .before .before .before .before .before .before .before .before .before .pre in
     (rw (pre .1 .1 .0) (remaining-few (pre .0) _), (rw (pre .1 .1 .1 .0) (past-few (pre .0)), omega (arith, window-is (pre .0), window-few (pre .0))))
 
 span-of-requires : tie.Need-span-of-requires
-span-of-requires c κs = let pre = c .before .before .before .before .before .before .before .before .before .before .before .before .before .before .pre in rw (pre .1 .1 .0) (remaining-few (pre .0) _)
+span-of-requires c κs = let pre = c .before .before .before .before .before .before .before .before .before .before .before .before .before .before .before .before .before .pre in rw (pre .1 .1 .0) (remaining-few (pre .0) _)
 
 mul-fill-row : tie.Need-mul-fill-row
-mul-fill-row c = record { fits = omega (arith, window-few (c .before .before .before .before .before .before .before .before .before .before .before .before .before .before .before .before .before .before .before .pre .0), c .before .before .before .before .before .before .before .before .before .before .before .before .before .before .before .before .before .before .before .pre .1 .0) }
+mul-fill-row c = let pre = c .before .before .before .before .before .before .before .before .before .before .before .before .before .before .before .before .before .before .before .before .before .pre in record { fits = omega (arith, window-few (pre .0), pre .1 .0) }
 
 fill-row-requires : tie.Need-fill-row-requires
 fill-row-requires c κs =
-    let start = c .before .before .before .before .before .before .before .before .before .before .before .before .before .before .before .before .before .before .before in
+    let start = c .before .before .before .before .before .before .before .before .before .before .before .before .before .before .before .before .before .before .before .before .before in
     let pre = start .pre in
     let K = pre .0 in
     let after = pre .1 .1 .0 in
     let past = pre .1 .1 .1 .0 in
     let window = window-is K in
-    let spot = c .before .before .before .before .before .before .before .before .spot .ensures in
-    let counts = c .before .before .before .before .before .counts-of .ensures in
-    let span = c .before .before .before .before .span-of .ensures in
-    let spotted = spot .0 _ (record { scan-is = refl; source-is = refl; inverse-is = refl; levels-is = refl }) (K .planned) in
+    let offer = c .before .before .before .before .before .before .before .before .before .offer .ensures in
+    let counts = c .before .before .before .before .counts-of .ensures in
+    let span = c .before .before .before .span-of .ensures in
+    let offered = offer .0 _ (record { scan-is = refl; source-is = refl; inverse-is = refl; levels-is = refl }) (K .planned) in
+    let level = handed-back _ _ (offered .level-is) (level-current K _ (pre .1 .0)) in
+    let place = c .before .before .before .before .before .before .before .place .ensures _ (K .planned) (offered .ideal-is) level in
     let lowest = lowest-is (counts .0) past after in
     let highest = highest-is _ (counts .1) past after window in
     let from = from-is _ (span .1 .0) after in
     let upto = upto-is _ (span .1 .1) after in
     let rooms = pre .1 .1 .1 .1 .1 in
-    let small = counts-narrow K _ (pre .1 .0) _ spotted (spot .1) _ _ _ _ (pre .1 .1 .1 .1 .0) (rooms .0) (span .0) from upto lowest highest in (
-      working K _ (pre .1 .0) _ spotted (spot .1) _ _ _ _ (pre .1 .1 .1 .1 .0) (rooms .0) (span .0) from upto lowest highest,
+    let small = counts-narrow K _ (pre .1 .0) _ _ _ offered place (offer .1 .0) _ _ _ _ (pre .1 .1 .1 .1 .0) (rooms .0) (span .0) from upto lowest highest in (
+      working K _ (pre .1 .0) _ _ _ offered place (offer .1 .0) _ _ _ _ (pre .1 .1 .1 .1 .0) (rooms .0) (span .0) from upto lowest highest,
       (
-        counts-some K _ (pre .1 .0) _ spotted (spot .1) _ _ _ _ (pre .1 .1 .1 .1 .0) (rooms .0) (span .0) from upto lowest highest,
+        counts-some K _ (pre .1 .0) _ _ _ offered place (offer .1 .0) _ _ _ _ (pre .1 .1 .1 .1 .0) (rooms .0) (span .0) from upto lowest highest,
         (room-of _ _ _ small (rooms .1 .0), space-of _ _ _ _ small (rooms .1 .1)),
       ),
     )
@@ -62,10 +71,10 @@ fill-row-requires c κs =
 nonzero-requires : tie.Need-nonzero-requires
 nonzero-requires c κs = search needs
 
-add-t28 : tie.Need-add-t28
-add-t28 c =
-    let pre = c .before .before .before .before .before .before .before .before .before .before .before .before .before .before .before .before .before .before .before .before .before .before .before .before .before .before .pre in
-    let few : c .before .before .before .before .before .before .before .before .before .before .before .before .before .before .before .before .before .before .before .before .before .before .before .before .before .before .args .after ≤ 65536 = rw (pre .1 .1 .0) (remaining-few (pre .0) _) in
+add-t29 : tie.Need-add-t29
+add-t29 c =
+    let start = c .before .before .before .before .before .before .before .before .before .before .before .before .before .before .before .before .before .before .before .before .before .before .before .before .before .before .before .before in
+    let few : start .args .after ≤ 65536 = rw (start .pre .1 .1 .0) (remaining-few (start .pre .0) _) in
     let one : c .nonzero .result ≤ 1 = rw (c .nonzero .ensures) (nz-le _) in
     record { fits = omega arith }
 
@@ -77,30 +86,33 @@ same-length-2 c = search needs
 
 returns : tie.Need-returns
 returns c =
-    let start = c .before .before .before .before .before .before .before .before .before .before .before .before .before .before .before .before .before .before .before .before .before .before .before .before .before .before in
+    let start = c .before .before .before .before .before .before .before .before .before .before .before .before .before .before .before .before .before .before .before .before .before .before .before .before .before .before .before .before in
     let pre = start .pre in
     let K = pre .0 in
     let after = pre .1 .1 .0 in
     let past = pre .1 .1 .1 .0 in
     let window = window-is K in
-    let spot = c .before .before .before .before .before .before .before .before .before .before .before .before .before .before .before .spot .ensures in
-    let counts = c .before .before .before .before .before .before .before .before .before .before .before .before .counts-of .ensures in
-    let span = c .before .before .before .before .before .before .before .before .before .before .before .span-of .ensures in
-    let spotted = spot .0 _ (record { scan-is = refl; source-is = refl; inverse-is = refl; levels-is = refl }) (K .planned) in
+    let offer = c .before .before .before .before .before .before .before .before .before .before .before .before .before .before .before .before .offer .ensures in
+    let counts = c .before .before .before .before .before .before .before .before .before .before .before .counts-of .ensures in
+    let span = c .before .before .before .before .before .before .before .before .before .before .span-of .ensures in
+    let offered = offer .0 _ (record { scan-is = refl; source-is = refl; inverse-is = refl; levels-is = refl }) (K .planned) in
+    let level = handed-back _ _ (offered .level-is) (level-current K _ (pre .1 .0)) in
+    let place = c .before .before .before .before .before .before .before .before .before .before .before .before .before .before .place .ensures _ (K .planned) (offered .ideal-is) level in
     let lowest = lowest-is (counts .0) past after in
     let highest = highest-is _ (counts .1) past after window in
     let from = from-is _ (span .1 .0) after in
     let upto = upto-is _ (span .1 .1) after in
     let rooms = pre .1 .1 .1 .1 .1 in
     let filled = c .before .before .before .before .before .before .fill-row .ensures in
-    stepped K _ (pre .1 .0) _ spotted (spot .1) _ _ _ _ (pre .1 .1 .1 .1 .0) (rooms .0) (span .0) from upto lowest highest _ _ _ _ _ (filled .0) (filled .1 .0) (filled .1 .1)
-    (sum-is after (c .nonzero .ensures ∙ ap nz (handed-back _ _ (spotted .level-is) (level-current K _ (pre .1 .0)) ∙ sym (spotted .level-is))))
+    stepped K _ (pre .1 .0) _ _ _ offered place (offer .1 .0) _ _ _ _ (pre .1 .1 .1 .1 .0) (rooms .0) (span .0) from upto lowest highest _ _ _ _ _ (filled .0) (filled .1 .0) (filled .1 .1)
+    (sum-is after (c .nonzero .ensures ∙ ap nz (level ∙ sym (offered .level-is))))
 
 pub take-position-spec : {M : Type 1} → statement M
 take-position-spec =
     tie.close
     (tie.spec
-    spot-requires
+    offer-requires
+    place-requires
     sub-counts-of
     sub-counts-of-2
     counts-of-requires
@@ -108,7 +120,7 @@ take-position-spec =
     mul-fill-row
     fill-row-requires
     nonzero-requires
-    add-t28
+    add-t29
     same-length
     same-length-2
     returns)

@@ -4,21 +4,9 @@ use borrow.Author.Needs.{needs}
 use Rattle.trellis_row.proofs.locals.Locals.note.Statement.{statement}
 use Rattle.trellis_row.proofs.locals.Locals.note.Tie as tie
 
-mul-locals : tie.Need-mul-locals
-mul-locals c = search needs
-
-element-write-locals : tie.Need-element-write-locals
-element-write-locals c = search needs
-
-mul-locals-2 : tie.Need-mul-locals-2
-mul-locals-2 c = search needs
-
-element-write-locals-2 : tie.Need-element-write-locals-2
-element-write-locals-2 c = search needs
-
 returns : tie.Need-returns
 unfolding noted
-returns c = rw (zero-nz _ (c .before .fits .level) (c .if1 .taken))
+returns c = rw (zero-nz _ (c .before .before .before .fits .level) (c .if1 .taken))
 
 cast-consider : tie.Need-cast-consider
 cast-consider c = search needs
@@ -34,16 +22,12 @@ consider-requires-2 c κs = search needs
 
 returns-2 : tie.Need-returns-2
 unfolding noted
-returns-2 c = rw (other-nz _ (c .before .before .before .before .if1 .left)) (cc)
+returns-2 c = rw (other-nz _ (c .before .before .if1 .left)) (cc)
 
 pub note-spec : {M : Type 1} → statement M
 note-spec =
     tie.close
     (tie.spec
-    mul-locals
-    element-write-locals
-    mul-locals-2
-    element-write-locals-2
     returns
     cast-consider
     consider-requires
