@@ -70,6 +70,18 @@ unfoldable pub zeroDensityContext : ℕ → ℕ → ℕ → ℕ → ℕ
 zeroDensityContext c remaining k prev =
     (getD coeffNumNonzeroContext ((remaining + c - 1) / c) 0 + getD coeffFreqContext (k / c) 0) * 2 + prev
 
+-- CoeffNumNonzeroContext is the same from index `at` to `last`
+pub record Alike (at last : ℕ) : Type 0 where
+  pub from : at ≤ last
+  pub most : last < 64
+  pub same : (i : ℕ) → at ≤ i → i ≤ last → getD coeffNumNonzeroContext i 0 ≡ getD coeffNumNonzeroContext at 0
+
+-- counts from `remaining` to `last` have the same contexts
+pub record CountsAlike (c remaining last : ℕ) : Type 0 where
+  pub from : remaining ≤ last
+  pub most : last ≤ 63 * c
+  pub same : (n k prev : ℕ) → remaining ≤ n → n ≤ last → zeroDensityContext c n k prev ≡ zeroDensityContext c remaining k prev
+
 -- c covered blocks: a power of two, up to 1,024
 pub record Covered (c log2 : ℕ) : Type 0 where
   pub power : c ≡ 2 ^ log2

@@ -1,7 +1,7 @@
 // The contexts of a block's tokens: those of src/ac_context.rs that the level search uses.
 ghost use mathlib.Core.Path.{_≡_};
 ghost use Prim.Native.Nat.{_+_, _-_, _*_, _<_, _≤_, _^_};
-ghost use Rattle.ac_context.specs.Contexts.{blockContext, fineBlockContext, nonZeroBucket, fineNonZeroContext, fineZeroDensityContextsOffset, zeroDensityContext, fineBlockContexts, Covered, Coefficient, Logarithm, isCoefficient};
+ghost use Rattle.ac_context.specs.Contexts.{blockContext, fineBlockContext, nonZeroBucket, fineNonZeroContext, fineZeroDensityContextsOffset, zeroDensityContext, fineBlockContexts, Covered, Coefficient, CountsAlike, Logarithm, isCoefficient};
 
 mod tables;
 
@@ -78,6 +78,19 @@ pub fn zero_density_context(
     let nz = (nonzeros_left + covered_blocks - 1) >> log2_covered_blocks;
     let kk = k >> log2_covered_blocks;
     (tables::coeff_num_nonzero_context(nz) + tables::coeff_freq_context(kk)) * 2 + prev
+}
+
+// Up to which count the contexts stay those of `nonzeros_left`, whatever the position.
+pub fn last_count_alike(
+    nonzeros_left: usize,
+    covered_blocks: usize,
+    log2_covered_blocks: u32,
+) -> usize
+    requires { ⌜ (Covered «covered_blocks» «log2_covered_blocks») × («nonzeros_left» ≤ 63 * «covered_blocks») ⌝ }
+    ensures { λ r. ⌜ CountsAlike «covered_blocks» «nonzeros_left» r ⌝ }
+{
+    let nz = (nonzeros_left + covered_blocks - 1) >> log2_covered_blocks;
+    tables::last_alike(nz) << log2_covered_blocks
 }
 
 // log2 of a number of covered blocks, or 11 where it is no power of two up to 1,024.

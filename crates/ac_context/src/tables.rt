@@ -2,7 +2,7 @@
 ghost use mathlib.Core.Path.{_≡_};
 ghost use Prim.Native.Nat.{_<_};
 ghost use lib.ListN.{getD};
-ghost use Rattle.ac_context.specs.Contexts.{strategyOrder, blockContextMap, channelRow, coeffFreqContext, coeffNumNonzeroContext};
+ghost use Rattle.ac_context.specs.Contexts.{strategyOrder, blockContextMap, channelRow, coeffFreqContext, coeffNumNonzeroContext, Alike};
 
 // Rows Y, X and B.
 const K_COMPACT_BLOCK_CONTEXT_MAP: [u8; 39] = [
@@ -148,4 +148,30 @@ pub(crate) fn coeff_num_nonzero_context(at: usize) -> usize
         return 180;
     }
     206
+}
+
+// Up to which index the entries stay the one at `at`.
+pub(crate) fn last_alike(at: usize) -> usize
+    requires { ⌜ at < 64 ⌝ }
+    ensures { λ r. ⌜ Alike at r ⌝ }
+{
+    if at < 9 {
+        if at < 3 {
+            return at;
+        }
+        if at < 5 {
+            return 4;
+        }
+        return 8;
+    }
+    if at < 21 {
+        if at < 13 {
+            return 12;
+        }
+        return 20;
+    }
+    if at < 33 {
+        return 32;
+    }
+    63
 }

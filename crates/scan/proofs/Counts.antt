@@ -1,9 +1,9 @@
 -- Counting the entries of a list. Assumes nothing.
 use mathlib.Core.Path.{_≡_, refl, sym, _∙_, ap}
-use mathlib.Core.Bool.{Bool, true, false, _&&_, cond, true≢false}
+use mathlib.Core.Bool.{Bool, true, false, true≢false}
 use mathlib.Core.List.{List, [], _∷_, _++_}
 use Prim.Native.Nat.{ℕ, zero, suc, _+_, _≤_, _<_, zero-le, suc-le-suc}
-use native.Mathlib.Nat.{zero-add, suc-add, add-suc, add-zero, not-suc-le-zero, le-of-suc-le-suc}
+use native.Mathlib.Nat.{suc-add, add-suc, not-suc-le-zero, le-of-suc-le-suc}
 use native.Mathlib.Omega.{arith}
 use borrow.Author.Tests.{eq-eqb, ne-eqb, eqb-true, ltb-true, ltb-false}
 use lib.Dec.{eqb, ltb, lit≤}
@@ -90,19 +90,33 @@ unfolding total
 total-ones zero s ones = refl
 total-ones (suc n) s ones = omega (arith, total-ones n s (λ i h. ones i (omega arith)), ones n (omega arith))
 
+total-many : (n : ℕ) (s : List ℕ) → ((i : ℕ) → i < n → 1 ≤ countOf i s) → n ≤ total n s
+unfolding total
+total-many zero s many = lit≤ tt
+total-many (suc n) s many = omega (arith, total-many n s (λ i h. many i (omega arith)), many n (omega arith))
+
+-- counts of at least 1 that add up to n are all 1
+pub once-all : (n : ℕ) (s : List ℕ) → ((i : ℕ) → i < n → 1 ≤ countOf i s) → total n s ≡ n → onceBelow n s ≡ true
+unfolding total onceBelow
+once-all zero s many e = refl
+once-all (suc n) s many e =
+    let less = total-many n s (λ i h. many i (omega arith)) in
+    let one = many n (omega arith) in
+    rw (once-all n s (λ i h. many i (omega arith)) (omega arith)) (eq-eqb (countOf n s) 1 (omega arith))
+
 total-few : (n : ℕ) (s : List ℕ) → ((i : ℕ) → i < n → countOf i s ≤ 1) → total n s ≤ n
 unfolding total
 total-few zero s few = lit≤ tt
 total-few (suc n) s few = omega (arith, total-few n s (λ i h. few i (omega arith)), few n (omega arith))
 
--- counts of at most 1 that add up to n are all 1
-pub once-all : (n : ℕ) (s : List ℕ) → ((i : ℕ) → i < n → countOf i s ≤ 1) → total n s ≡ n → onceBelow n s ≡ true
-unfolding total onceBelow
-once-all zero s few e = refl
-once-all (suc n) s few e =
-    let less = total-few n s (λ i h. few i (omega arith)) in
+-- and so are counts of at most 1
+pub few-ones : (n : ℕ) (s : List ℕ) → ((i : ℕ) → i < n → countOf i s ≤ 1) → total n s ≡ n → (i : ℕ) → i < n → countOf i s ≡ 1
+unfolding total
+few-ones zero s few e i h = absurd (not-suc-le-zero h)
+few-ones (suc n) s few e i h =
+    let less = total-few n s (λ i l. few i (omega arith)) in
     let one = few n (omega arith) in
-    rw (once-all n s (λ i h. few i (omega arith)) (omega arith)) (eq-eqb (countOf n s) 1 (omega arith))
+    either i n (λ p. rw p (omega arith)) (λ d. few-ones n s (λ i l. few i (omega arith)) (omega arith) i (omega arith))
 
 pub once-at : (n : ℕ) (s : List ℕ) → onceBelow n s ≡ true → (i : ℕ) → i < n → countOf i s ≡ 1
 unfolding onceBelow

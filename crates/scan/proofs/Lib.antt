@@ -1,5 +1,5 @@
-mod Bools
 mod Counts
 mod Marks
 pub mod Once
+pub mod Order
 pub mod Through

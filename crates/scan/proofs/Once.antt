@@ -1,13 +1,13 @@
 -- A list that holds each number below its length once is a permutation of them. Assumes nothing.
-use mathlib.Core.Path.{_≡_, refl, sym, _∙_}
-use mathlib.Core.Bool.{Bool, true, false}
+use mathlib.Core.Path.{_≡_, refl}
+use mathlib.Core.Bool.{true}
 use mathlib.Core.List.{List}
 use Prim.Native.Nat.{ℕ, _≤_, _<_}
 use native.Mathlib.Nat.{lt-irrefl}
 use native.Mathlib.Omega.{arith}
 use lib.ListN.{length, getD}
 use Rattle.scan.specs.Scan.{countOf, eachOnce, Perm}
-use Rattle.scan.proofs.Counts.{total, total-short, total-full, total-ones, once-all, once-at, count-two, either, split}
+use Rattle.scan.proofs.Counts.{total-short, total-full, total-ones, once-all, once-at, count-two, either, split}
 
 pub once : (s : List ℕ) → eachOnce s ≡ true → (i : ℕ) → i < length s → countOf i s ≡ 1
 unfolding eachOnce
@@ -31,7 +31,7 @@ perm s e = record { size = refl; bound = bound s e; distinct = distinct s e }
 pub perm-of : (s : List ℕ) (n : ℕ) → length s ≡ n → eachOnce s ≡ true → Perm s n
 perm-of s n l e = rw l at (perm s e)
 
--- counts of at most 1, and no entry past the end, are enough
-pub each-once : (s : List ℕ) → ((i : ℕ) → i < length s → countOf i s ≤ 1) → ((k : ℕ) → k < length s → getD s k 0 < length s) → eachOnce s ≡ true
+-- counts of at least 1, and no entry past the end, are enough
+pub each-once : (s : List ℕ) → ((i : ℕ) → i < length s → 1 ≤ countOf i s) → ((k : ℕ) → k < length s → getD s k 0 < length s) → eachOnce s ≡ true
 unfolding eachOnce
-each-once s few below = once-all (length s) s few (total-full (length s) s below)
+each-once s many below = once-all (length s) s many (total-full (length s) s below)

@@ -35,3 +35,8 @@ levelAt scan block k = getD block (getD scan k 0) (pos 0)
 unfoldable pub put : List ℕ → List ℤ → ℕ → ℕ → List ℤ → List ℤ
 put scan levels from zero block = block
 put scan levels from (suc n) block = set (put scan levels from n block) (getD scan (from + n) 0) (getD levels n (pos 0))
+
+-- f 0 to f (n − 1), added up
+unfoldable pub sumTo : (ℕ → ℕ) → ℕ → ℕ
+sumTo f zero = 0
+sumTo f (suc n) = sumTo f n + f n

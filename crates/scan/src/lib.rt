@@ -1,8 +1,8 @@
 // Check 11: the scan holds each number below its length once.
 ghost use mathlib.Core.Path.{_≡_};
-ghost use mathlib.Core.Bool.{false};
 ghost use Prim.Native.Nat.{ℕ, _<_, _≤_};
 ghost use lib.ListN.{length, getD};
+ghost use Rattle.scan.specs.Marks.{Marked, markedBelow};
 ghost use Rattle.scan.specs.Scan.{eachOnce};
 
 fn wide(x: u32) -> usize
@@ -11,57 +11,92 @@ fn wide(x: u32) -> usize
     x as usize
 }
 
-// Marks the numbers met, one bool each, and stops at one past the end or met before.
-fn mark_bools(scan: &[u32], marks: &mut [bool]) -> bool
-    requires { ⌜ length (now scan) ≤ length (now marks) ⌝ }
-    requires { ⌜ ((i : ℕ) → i < length (now scan) → getD (now marks) i false ≡ false) ⌝ }
-    ensures { λ r. ⌜ r ≡ eachOnce (now (scan .entry)) ⌝ }
+// 0 for a number below n, else 1.
+fn outside(x: usize, n: usize) -> usize
+    ensures { λ r. ⌜ (r ≤ 1) × ((x < n → r ≡ 0) × (n ≤ x → r ≡ 1)) ⌝ }
 {
+    if x < n { 0 } else { 1 }
+}
+
+// Marks the numbers met; whether all are below the length. With no early exit, and the index held to the marks (a power of two of them, so
+// by a mask), the loop is unrolled.
+fn mark(scan: &[u32], marks: &mut [u8]) -> bool
+    requires { ⌜ (0 < length (now marks)) × (length (now scan) ≤ length (now marks)) ⌝ }
+    requires { ⌜ ((i : ℕ) → i < length (now scan) → getD (now marks) i 0 ≡ 0) ⌝ }
+    ensures { λ r. ⌜ Marked (now (scan .entry)) r (now (marks .exit)) ⌝ }
+{
+    let mut bad = 0;
     let mut k = 0;
     while k < scan.len() {
         let x = wide(scan[k]);
-        if x >= scan.len() {
-            return false;
-        }
-        if marks[x] {
-            return false;
-        }
-        marks[x] = true;
+        bad += outside(x, scan.len());
+        marks[x % marks.len()] = 1;
         k += 1;
     }
-    true
+    bad == 0
+}
+
+fn smaller(x: u8, y: u8) -> u8
+    ensures { λ r. ⌜ (x < y → r ≡ x) × (y ≤ x → r ≡ y) ⌝ }
+{
+    if x < y { x } else { y }
+}
+
+// Whether the first n are marked: by the least of them, so that the loop takes many at a time.
+fn all_marked(marks: &[u8], n: usize) -> bool
+    requires { ⌜ n ≤ length (now marks) ⌝ }
+    ensures { λ r. ⌜ r ≡ markedBelow n (now (marks .entry)) ⌝ }
+{
+    let mut least: u8 = 1;
+    let mut k = 0;
+    while k < n {
+        least = smaller(marks[k], least);
+        k += 1;
+    }
+    least == 1
+}
+
+fn marks_all(scan: &[u32], marks: &mut [u8]) -> bool
+    requires { ⌜ (0 < length (now marks)) × (length (now scan) ≤ length (now marks)) ⌝ }
+    requires { ⌜ ((i : ℕ) → i < length (now scan) → getD (now marks) i 0 ≡ 0) ⌝ }
+    ensures { λ r. ⌜ r ≡ eachOnce (now (scan .entry)) ⌝ }
+{
+    if mark(scan, marks) {
+        return all_marked(marks, scan.len());
+    }
+    false
 }
 
 fn each_once_64(scan: &[u32]) -> bool
     requires { ⌜ length (now scan) ≤ 64 ⌝ }
     ensures { λ r. ⌜ r ≡ eachOnce (now (scan .entry)) ⌝ }
 {
-    let mut marks = [false; 64];
-    mark_bools(scan, &mut marks)
+    let mut marks = [0u8; 64];
+    marks_all(scan, &mut marks)
 }
 
 fn each_once_1024(scan: &[u32]) -> bool
     requires { ⌜ length (now scan) ≤ 1024 ⌝ }
     ensures { λ r. ⌜ r ≡ eachOnce (now (scan .entry)) ⌝ }
 {
-    let mut marks = [false; 1024];
-    mark_bools(scan, &mut marks)
+    let mut marks = [0u8; 1024];
+    marks_all(scan, &mut marks)
 }
 
 fn each_once_16384(scan: &[u32]) -> bool
     requires { ⌜ length (now scan) ≤ 16384 ⌝ }
     ensures { λ r. ⌜ r ≡ eachOnce (now (scan .entry)) ⌝ }
 {
-    let mut marks = [false; 16384];
-    mark_bools(scan, &mut marks)
+    let mut marks = [0u8; 16384];
+    marks_all(scan, &mut marks)
 }
 
 fn each_once_65536(scan: &[u32]) -> bool
     requires { ⌜ length (now scan) ≤ 65536 ⌝ }
     ensures { λ r. ⌜ r ≡ eachOnce (now (scan .entry)) ⌝ }
 {
-    let mut marks = [false; 65536];
-    mark_bools(scan, &mut marks)
+    let mut marks = [0u8; 65536];
+    marks_all(scan, &mut marks)
 }
 
 // A short scan clears few marks.

@@ -3,6 +3,7 @@ pub mod Arrays
 pub mod Listed
 pub mod Spots
 pub mod Counting
+pub mod Ordered
 pub mod Tails
 pub mod Local
 pub mod Plans
