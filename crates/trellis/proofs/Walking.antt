@@ -18,7 +18,7 @@ use Rattle.block.specs.Block.{Block, blockOf, covered, contextOf, inputAt, inpu
 use Rattle.block.specs.Band.{positionAt, pastWindow, halfWidth}
 use Rattle.block.specs.Cost.{firstPrev}
 use Rattle.block_checks.specs.Passed.{Passed}
-use Rattle.candidates.specs.Candidates.{candidatesOf}
+use Rattle.candidates.specs.Candidates.{candidatesOf, inArray}
 use Rattle.least_cost.specs.Position.{Position, Tail, nz}
 use Rattle.least_cost.specs.Search.{trial, step, best, pick, walk}
 use Rattle.least_cost.proofs.Best.{AllPriced, best-costs, picked, rest-priced}
@@ -159,15 +159,15 @@ module _ {scan : List ℕ} {source inverse : List Float} {levels₀ : List ℤ} 
     lists-now : Lists now-block scan source inverse levels
     lists-now = record { scan-is = w .lists .scan-is; source-is = w .lists .source-is; inverse-is = w .lists .inverse-is; levels-is = refl }
 
-    module _ {offer : Offer} (S : (b' : Block) → Lists b' scan source inverse levels → Planned b' plan → Offered b' i offer) where
-      offered : Offered now-block i offer
+    module _ {offer : Offer} {array : List ℤ} (S : (b' : Block) → Lists b' scan source inverse levels → Planned b' plan → Offered b' i offer array) where
+      offered : Offered now-block i offer array
       offered = S now-block lists-now planned-now
 
       pub offer-level : offer .level ≡ inputAt (w .block) (covered (w .block) + i)
       unfolding inputAt covered
       offer-level = offered .level-is ∙ ap (λ (s : List ℕ). levelAt s levels (covered (w .block) + i)) (sym (w .lists .scan-is)) ∙ level-kept
 
-      pub offer-listed : listed (offer .candidates) ≡ candidatesAt (windowOf (covered (w .block))) (w .block) i
+      pub offer-listed : listed (inArray (offer .count) array) ≡ candidatesAt (windowOf (covered (w .block))) (w .block) i
       unfolding candidatesAt inputAt covered ideal
       offer-listed =
           offered .listed-is
@@ -236,7 +236,7 @@ module _ {scan : List ℕ} {source inverse : List Float} {levels₀ : List ℤ} 
           })
 
     -- ---- one turn of the loop
-    module _ {offer : Offer} (S : (b' : Block) → Lists b' scan source inverse levels → Planned b' plan → Offered b' i offer) (U : Usable (offer .candidates))
+    module _ {offer : Offer} {array : List ℤ} (S : (b' : Block) → Lists b' scan source inverse levels → Planned b' plan → Offered b' i offer array) (U : Usable (inArray (offer .count) array))
         {n low idx : ℕ} (N : n ≡ nz (toZ w32 (ofZ w32 (offer .level)))) (l : low ≡ leastCount past (after - n)) (x : idx ≡ getD choices (28 * i + (2 * (left - low) + prev)) 0) where
       read-level : n ≡ nz (offer .level)
       read-level = N ∙ ap nz (handed-back _ _ (offer-level S) (level-current (w .checked) i h) ∙ sym (offer-level S))
@@ -244,37 +244,37 @@ module _ {scan : List ℕ} {source inverse : List Float} {levels₀ : List ℤ} 
       follow : after - n ≡ inputRemaining (w .block) (covered (w .block) + suc i)
       follow = after-now S (ap (λ (m : ℕ). after - m) read-level)
 
-      pub index-below : idx < offer .candidates .count
+      pub index-below : idx < offer .count
       index-below =
-          let k : getD choices (28 * i + (2 * (left - low) + prev)) 0 < length (listed (offer .candidates)) = rw (offer-listed S) (named-below follow l) in
-          omega (arith, length-take (offer .candidates .count) (offer .candidates .levels))
+          let k : getD choices (28 * i + (2 * (left - low) + prev)) 0 < length (listed (inArray (offer .count) array)) = rw (offer-listed S) (named-below follow l) in
+          omega (arith, length-take (offer .count) array)
 
-      pub level-named : getD (offer .candidates .levels) idx (pos 0) ≡ pick (tail (w .book) (w .block)) (position (w .book) (w .block) i) (positions (w .book) (w .block) (suc i)) left prev
+      pub level-named : getD array idx (pos 0) ≡ pick (tail (w .book) (w .block)) (position (w .book) (w .block) i) (positions (w .book) (w .block) (suc i)) left prev
       level-named =
-          sym (getD-take (offer .candidates .count) (offer .candidates .levels) idx (pos 0) index-below)
+          sym (getD-take (offer .count) array idx (pos 0) index-below)
           ∙ ap₂ (λ (c : List ℤ) (m : ℕ). getD c m (pos 0)) (offer-listed S) x
           ∙ named follow l
 
-      level-handed : toZ w32 (ofZ w32 (getD (offer .candidates .levels) idx (pos 0))) ≡ getD (offer .candidates .levels) idx (pos 0)
+      level-handed : toZ w32 (ofZ w32 (getD array idx (pos 0))) ≡ getD array idx (pos 0)
       level-handed = level-back _ (U .levels idx index-below)
 
-      pub level-left : {m : ℕ} → m ≡ nz (toZ w32 (ofZ w32 (getD (offer .candidates .levels) idx (pos 0)))) → m ≤ left
+      pub level-left : {m : ℕ} → m ≡ nz (toZ w32 (ofZ w32 (getD array idx (pos 0)))) → m ≤ left
       level-left e = rw e (level-among (level-handed ∙ level-named))
 
-      pub walked-on : {m : ℕ} {levels' : List ℤ} {k : ℕ} → m ≡ nz (toZ w32 (ofZ w32 (getD (offer .candidates .levels) idx (pos 0)))) → k ≡ plan .covered + i
-          → levels' ≡ set levels (getD scan k 0) (toZ w32 (ofZ w32 (getD (offer .candidates .levels) idx (pos 0)))) → WalkedTo w (i + 1) levels' (left - m) m (after - n)
+      pub walked-on : {m : ℕ} {levels' : List ℤ} {k : ℕ} → m ≡ nz (toZ w32 (ofZ w32 (getD array idx (pos 0)))) → k ≡ plan .covered + i
+          → levels' ≡ set levels (getD scan k 0) (toZ w32 (ofZ w32 (getD array idx (pos 0)))) → WalkedTo w (i + 1) levels' (left - m) m (after - n)
       walked-on {m} {levels'} {k} e f g =
-          let q = toZ w32 (ofZ w32 (getD (offer .candidates .levels) idx (pos 0))) in
+          let q = toZ w32 (ofZ w32 (getD array idx (pos 0))) in
           let place : k ≡ covered (w .block) + i = f ∙ ap (λ (c : ℕ). c + i) (w .checked .planned .covered-is) in
           let written : levels' ≡ set levels (getD scan (covered (w .block) + i) 0) q = g ∙ ap (λ (j : ℕ). set levels (getD scan j 0) q) place in
           subst⁻¹ (λ (y : List ℤ). WalkedTo w (i + 1) y (left - m) m (after - n)) written
           (subst⁻¹ (λ (z : ℕ). WalkedTo w (i + 1) (set levels (getD scan (covered (w .block) + i) 0) q) (left - z) z (after - n)) e
           (walk-on (level-handed ∙ level-named) follow))
 
-    pub input-some : {offer : Offer} → ((b' : Block) → Lists b' scan source inverse levels → Planned b' plan → Offered b' i offer) → {n : ℕ} → n ≡ nz (toZ w32 (ofZ w32 (offer .level))) → n ≤ after
+    pub input-some : {offer : Offer} {array : List ℤ} → ((b' : Block) → Lists b' scan source inverse levels → Planned b' plan → Offered b' i offer array) → {n : ℕ} → n ≡ nz (toZ w32 (ofZ w32 (offer .level))) → n ≤ after
     input-some S N = rw (N ∙ ap nz (handed-back _ _ (offer-level S) (level-current (w .checked) i h) ∙ sym (offer-level S))) (after-some S)
 
-    pub state-here : {offer : Offer} → ((b' : Block) → Lists b' scan source inverse levels → Planned b' plan → Offered b' i offer) → {n low : ℕ} → n ≡ nz (toZ w32 (ofZ w32 (offer .level)))
+    pub state-here : {offer : Offer} {array : List ℤ} → ((b' : Block) → Lists b' scan source inverse levels → Planned b' plan → Offered b' i offer array) → {n low : ℕ} → n ≡ nz (toZ w32 (ofZ w32 (offer .level)))
         → low ≡ leastCount past (after - n) → (low ≤ left) × (left ≤ low + 13)
     state-here S N l = state-in-row (after-now S (ap (λ (m : ℕ). after - m) (N ∙ ap nz (handed-back _ _ (offer-level S) (level-current (w .checked) i h) ∙ sym (offer-level S))))) l
 

@@ -38,12 +38,12 @@ pub(crate) fn write_levels(
     let mut prev = steps::tokens::first_prev(covered, count);
     let mut left = count;
     let mut after = nonzeros;
+    let mut offered = [0i32; 5];
     for i in 0..window.length {
-        let offer = plan.offer(scan, source, inv_qm, levels, i);
+        let offer = plan.offer(scan, source, inv_qm, levels, i, &mut offered);
         after -= steps::nonzero(offer.level);
         let least = position::least_count(past, after);
-        let candidates = offer.candidates;
-        let level = candidates.levels[choice_at(choices, i, least, left, prev)];
+        let level = offered[choice_at(choices, i, least, left, prev)];
         steps::write_level(scan, levels, covered + i, level);
         prev = steps::nonzero(level);
         left -= prev;

@@ -14,11 +14,11 @@ use Rattle.trellis.proofs.walk.write_levels.Statement.{statement}
 use Rattle.trellis.proofs.walk.write_levels.Tie as tie
 
 abbrev Inv-loop : tie.InvT-loop
-Inv-loop scan source inv-qm levels₀ plan past nonzeros choices count covered prev₀ left₀ after₀ i₀ i-end levels prev left after i =
+Inv-loop scan source inv-qm levels₀ plan past nonzeros choices count covered prev₀ left₀ after₀ offered₀ i₀ i-end levels prev left after offered i =
     ((w : Walkable scan source inv-qm levels₀ plan past nonzeros choices count) → WalkedTo w i levels left prev after) × ((covered ≡ plan .covered) × ((i-end ≡ plan .window .length) × (i ≤ i-end)))
 
 abbrev μ-loop : tie.MeasureT-loop
-μ-loop scan source inv-qm levels₀ plan past nonzeros choices count covered prev₀ left₀ after₀ i₀ i-end levels prev left after i =
+μ-loop scan source inv-qm levels₀ plan past nonzeros choices count covered prev₀ left₀ after₀ offered₀ i₀ i-end levels prev left after offered i =
     i-end - i
 
 first-prev-requires : tie.Need-first-prev-requires Inv-loop μ-loop
@@ -29,9 +29,9 @@ loop-holds c = ((λ w. walk-starts w (c .first-prev .ensures)), (refl, (refl, ze
 
 offer-requires : tie.Need-offer-requires Inv-loop μ-loop
 offer-requires c κs =
-    let w = c .before .before .before .before .before .before .before .before .before .pre in
-    let inv = c .before .before .loop .inv in
-    let h = in-window w (c .before .loop-test .taken) (inv .1 .1 .0) in
+    let w = c .before .before .before .before .before .before .before .before .before .before .pre in
+    let inv = c .before .before .before .loop .inv in
+    let h = in-window w (c .before .before .loop-test .taken) (inv .1 .1 .0) in
     (readable-now w (inv .0 w) h, position-few (w .checked) _ h)
 
 nonzero-requires : tie.Need-nonzero-requires Inv-loop μ-loop
@@ -39,9 +39,9 @@ nonzero-requires c κs = search needs
 
 sub-after : tie.Need-sub-after Inv-loop μ-loop
 sub-after c =
-    let w = c .before .before .before .before .before .before .before .before .before .before .before .before .pre in
-    let inv = c .before .before .before .before .before .loop .inv in
-    let h = in-window w (c .before .before .before .before .loop-test .taken) (inv .1 .1 .0) in
+    let w = c .before .before .before .before .before .before .before .before .before .before .before .before .before .pre in
+    let inv = c .before .before .before .before .before .before .loop .inv in
+    let h = in-window w (c .before .before .before .before .before .loop-test .taken) (inv .1 .1 .0) in
     input-some w (inv .0 w) h (c .before .before .offer .ensures .0) (c .nonzero .ensures)
 
 least-count-requires : tie.Need-least-count-requires Inv-loop μ-loop
@@ -53,7 +53,7 @@ choice-at-requires c κs =
     let inv = c .before .before .before .before .before .before .before .loop .inv in
     let h = in-window w (c .before .before .before .before .before .before .loop-test .taken) (inv .1 .1 .0) in
     let few = window-few (w .checked) in
-    let row = state-here w (inv .0 w) h (c .before .before .before .before .offer .ensures .0) (c .before .before .nonzero .ensures) (c .before .least-count .ensures) in
+    let row = state-here w (inv .0 w) h (c .before .before .before .offer .ensures .0) (c .before .nonzero .ensures) (c .least-count .ensures) in
     ((omega arith, (left-few w (inv .0 w) h, omega (arith, w .room))), (row .0, (row .1, inv .0 w .bit)))
 
 mul-level : tie.Need-mul-level Inv-loop μ-loop
@@ -61,17 +61,17 @@ mul-level c =
     let w = c .before .before .before .before .before .before .before .before .before .before .before .before .before .before .before .pre in
     let inv = c .before .before .before .before .before .before .before .before .loop .inv in
     let h = in-window w (c .before .before .before .before .before .before .before .loop-test .taken) (inv .1 .1 .0) in
-    let below = index-below w (inv .0 w) h (c .before .before .before .before .before .offer .ensures .0) (c .before .before .before .before .before .offer .ensures .1 .0) (c .before .before .before .nonzero .ensures) (c .before .before .least-count .ensures) (c .choice-at .ensures) in
-    let five = c .before .before .before .before .before .offer .ensures .1 .0 .few in
+    let below = index-below w (inv .0 w) h (c .before .before .before .before .offer .ensures .0) (c .before .before .before .before .offer .ensures .1 .0) (c .before .before .nonzero .ensures) (c .before .least-count .ensures) (c .choice-at .ensures) in
+    let five = c .before .before .before .before .offer .ensures .1 .0 .few in
     record { fits = omega arith }
 
-element-copy-out-level : tie.Need-element-copy-out-level Inv-loop μ-loop
-element-copy-out-level c =
+array-copy-out-level : tie.Need-array-copy-out-level Inv-loop μ-loop
+array-copy-out-level c =
     let w = c .before .before .before .before .before .before .before .before .before .before .before .before .before .before .before .pre in
     let inv = c .before .before .before .before .before .before .before .before .loop .inv in
     let h = in-window w (c .before .before .before .before .before .before .before .loop-test .taken) (inv .1 .1 .0) in
-    let below = index-below w (inv .0 w) h (c .before .before .before .before .before .offer .ensures .0) (c .before .before .before .before .before .offer .ensures .1 .0) (c .before .before .before .nonzero .ensures) (c .before .before .least-count .ensures) (c .choice-at .ensures) in
-    let five = c .before .before .before .before .before .offer .ensures .1 .0 .few in
+    let below = index-below w (inv .0 w) h (c .before .before .before .before .offer .ensures .0) (c .before .before .before .before .offer .ensures .1 .0) (c .before .before .nonzero .ensures) (c .before .least-count .ensures) (c .choice-at .ensures) in
+    let five = c .before .before .before .before .offer .ensures .1 .0 .few in
     omega arith
 
 add-write-level : tie.Need-add-write-level Inv-loop μ-loop
@@ -97,7 +97,7 @@ sub-left c =
     let w = c .before .before .before .before .before .before .before .before .before .before .before .before .before .before .before .before .before .before .before .before .pre in
     let inv = c .before .before .before .before .before .before .before .before .before .before .before .before .before .loop .inv in
     let h = in-window w (c .before .before .before .before .before .before .before .before .before .before .before .before .loop-test .taken) (inv .1 .1 .0) in
-    level-left w (inv .0 w) h (c .before .before .before .before .before .before .before .before .before .before .offer .ensures .0) (c .before .before .before .before .before .before .before .before .before .before .offer .ensures .1 .0) (c .before .before .before .before .before .before .before .before .nonzero .ensures) (c .before .before .before .before .before .before .before .least-count .ensures) (c .before .before .before .before .before .choice-at .ensures) (c .nonzero2 .ensures)
+    level-left w (inv .0 w) h (c .before .before .before .before .before .before .before .before .before .offer .ensures .0) (c .before .before .before .before .before .before .before .before .before .offer .ensures .1 .0) (c .before .before .before .before .before .before .before .nonzero .ensures) (c .before .before .before .before .before .before .least-count .ensures) (c .before .before .before .before .before .choice-at .ensures) (c .nonzero2 .ensures)
 
 add-i : tie.Need-add-i Inv-loop μ-loop
 add-i c =
@@ -113,8 +113,8 @@ loop-again : tie.Need-loop-again Inv-loop μ-loop
 loop-again c =
     let inv = c .before .before .before .before .before .before .before .before .before .before .before .before .before .loop .inv in
     let taken = c .before .before .before .before .before .before .before .before .before .before .before .before .loop-test .taken in
-    let offer = c .before .before .before .before .before .before .before .before .before .before .offer .ensures in (
-      λ w. walked-on w (inv .0 w) (in-window w taken (inv .1 .1 .0)) (offer .0) (offer .1 .0) (c .before .before .before .before .before .before .before .before .nonzero .ensures) (c .before .before .before .before .before .before .before .least-count .ensures) (c .before .before .before .before .before .choice-at .ensures) (c .nonzero2 .ensures) (ap (λ (n : ℕ). n + c .before .before .before .before .before .before .before .before .before .before .before .before .before .loop .i) (inv .1 .0)) (c .before .before .write-level .ensures),
+    let offer = c .before .before .before .before .before .before .before .before .before .offer .ensures in (
+      λ w. walked-on w (inv .0 w) (in-window w taken (inv .1 .1 .0)) (offer .0) (offer .1 .0) (c .before .before .before .before .before .before .before .nonzero .ensures) (c .before .before .before .before .before .before .least-count .ensures) (c .before .before .before .before .before .choice-at .ensures) (c .nonzero2 .ensures) (ap (λ (n : ℕ). n + c .before .before .before .before .before .before .before .before .before .before .before .before .before .loop .i) (inv .1 .0)) (c .before .before .write-level .ensures),
       (inv .1 .0, (inv .1 .1 .0, omega arith)),
     )
 
@@ -140,7 +140,7 @@ write-levels-spec =
     least-count-requires
     choice-at-requires
     mul-level
-    element-copy-out-level
+    array-copy-out-level
     add-write-level
     write-level-requires
     nonzero-requires-2
