@@ -11,7 +11,8 @@ use lib.ListN.{length, getD, set, length-set}
 use lib.Seq.{getD-set-same, getD-set-other}
 use lib.Ieee.{Float, nan, inf, lt, add, binary32}
 use lib.Ieee.Scale.{finite}
-use borrow.Author.Tests.{eqb-true, eqb-false, leb-true, leb-false}
+use borrow.Author.Tests.{eqb-true, eqb-false, ne-eqb, leb-true}
+use Rattle.ac_context.specs.Contexts.{CountsAlike}
 use Rattle.costs.specs.Cost.{cost}
 use Rattle.costs.proofs.Order.{infinite, lt-inf, inf-lt}
 use Rattle.costs.proofs.Sum.{add-inf}
@@ -200,15 +201,11 @@ unfolding localAt
 located-at book x levels first second l n context e w = subst⁻¹ (λ (k : ℕ). Located (localIn book x k 0) (localIn book x k 1) levels first second l) e w
 
 -- ---- a run of counts
--- what holds up to e and of the next number holds up to that
-pub up-to-more : (P : ℕ → Type 0) (from e : ℕ) → ((n : ℕ) → from ≤ n → n ≤ e → P n) → P (e + 1) → (n : ℕ) → from ≤ n → n ≤ e + 1 → P n
-up-to-more P from e h k n low high = go (leb n e) refl
-  where
-    go : (t : Bool) → leb n e ≡ t → P n
-    go true u = h n low (leb-true n e u)
-    go false u =
-        let last : e + 1 ≡ n = omega (arith, leb-false n e u) in
-        subst P last k
+-- counts with the same table entry have the same context; where nothing remains there is no token
+pub alike-context : (x : Place) {from last : ℕ} → CountsAlike (x .covered) from last → (from ≡ 0 → ⊥) → (n : ℕ) → from ≤ n → n ≤ last → contextAt x n ≡ contextAt x from
+unfolding contextAt
+alike-context x {from} w some n low high =
+    rw (ne-eqb n 0 (λ e. some (omega arith)), ne-eqb from 0 some) (ap (λ (z : ℕ). x .offset + z) (w .same n (x .k) 0 low high))
 
 -- the counts from `from` up to r, r not included, are done; R is what a count's states are worked out from
 pub record Ran (R : Book → Place → ℕ → Type 0) (levels : List ℤ) (next : List Float) (s : Span) (at least from upto r : ℕ) (row row' : List Float) (choices choices' : List ℕ) : Type 0 where

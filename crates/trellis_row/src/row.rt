@@ -192,20 +192,17 @@ fn row_state(
     );
 }
 
-// The last count, up to `most`, of those from `from` on that share its context.
+// The last count, up to `most`, of those from `from` on that share its context. Where nothing remains there is no token, so 0 stands alone.
 pub fn run_end(place: Place, context: usize, from: usize, most: usize) -> usize
     requires { ⌜ Coding place most ⌝ }
     requires { ⌜ (from ≤ most) × (context ≡ contextAt place from) ⌝ }
     ensures { λ r. ⌜ (from ≤ r) × ((r ≤ most) × ((n : ℕ) → from ≤ n → n ≤ r → contextAt place n ≡ context)) ⌝ }
 {
-    let mut end = from;
-    while end < most {
-        if place.context(end + 1) != context {
-            return end;
-        }
-        end += 1;
+    if from == 0 {
+        return 0;
     }
-    end
+    let end = ac_context::last_count_alike(from, place.covered, place.log2);
+    if end < most { end } else { most }
 }
 
 // The states of the counts from `from` to `upto`, which share their local costs.
