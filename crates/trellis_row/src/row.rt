@@ -193,10 +193,10 @@ fn row_state(
 }
 
 // The last count, up to `most`, of those from `from` on that share its context. Where nothing remains there is no token, so 0 stands alone.
-pub fn run_end(place: Place, context: usize, from: usize, most: usize) -> usize
+pub fn run_end(place: Place, from: usize, most: usize) -> usize
     requires { ⌜ Coding place most ⌝ }
-    requires { ⌜ (from ≤ most) × (context ≡ contextAt place from) ⌝ }
-    ensures { λ r. ⌜ (from ≤ r) × ((r ≤ most) × ((n : ℕ) → from ≤ n → n ≤ r → contextAt place n ≡ context)) ⌝ }
+    requires { ⌜ from ≤ most ⌝ }
+    ensures { λ r. ⌜ (from ≤ r) × ((r ≤ most) × ((n : ℕ) → from ≤ n → n ≤ r → contextAt place n ≡ contextAt place from)) ⌝ }
 {
     if from == 0 {
         return 0;
@@ -307,7 +307,7 @@ pub fn fill_row(
             &mut first,
             &mut second,
         );
-        let end = run_end(place, context, r, most);
+        let end = run_end(place, r, most);
         fill_run(
             levels,
             count,

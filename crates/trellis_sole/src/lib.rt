@@ -183,7 +183,7 @@ fn fill_sole(
             context,
             level,
         );
-        let end = row::run_end(place, context, r, most);
+        let end = row::run_end(place, r, most);
         fill_run(
             level,
             distortion,

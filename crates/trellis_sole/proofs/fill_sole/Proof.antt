@@ -42,7 +42,7 @@ token-of-requires c κs =
     (pre .0 .priced, (c .context .ensures .1, usable-level (pre .0 .usable) 0 (count-first (pre .1 .0))))
 
 run-end-requires : tie.Need-run-end-requires Inv-loop μ-loop
-run-end-requires c κs = (coding-of (c .before .before .before .before .before .before .before .before .before .before .before .before .before .pre .0), (c .before .before .loop-test .taken, c .before .context .ensures .0))
+run-end-requires c κs = (coding-of (c .before .before .before .before .before .before .before .before .before .before .before .before .before .pre .0), c .before .before .loop-test .taken)
 
 fill-run-requires : tie.Need-fill-run-requires Inv-loop μ-loop
 fill-run-requires c κs =
@@ -75,13 +75,14 @@ loop-again c =
     let pre = c .before .before .before .before .before .before .before .before .before .before .before .before .before .before .before .before .before .before .before .before .before .pre in
     let back = usable-back (pre .0 .usable) 0 (count-first (pre .1 .0)) in
     let end = c .before .before .before .before .before .before .before .run-end .ensures in
+    let shared = c .before .before .before .before .before .before .before .before .before .context .ensures .0 in
     let token = rw back at (c .before .before .before .before .before .before .before .before .token-of .ensures) in
     let distortion = rw back at (c .before .before .before .before .before .before .before .before .before .before .before .before .distortion .ensures) in
     let call = rw back at (c .before .before .before .before .fill-run .ensures) in
     let inv = rw back at (c .before .before .before .before .before .before .before .before .before .before .before .loop .inv) in
     rw back
     (so-far-more (end .0) (end .1 .0) inv (call .0) (call .1 .0)
-    (call .1 .1 _ _ (λ n low high. sole-ready n _ (pre .0) (pre .1 .0) (omega (arith, high, end .1 .0)) (end .1 .1 n low high) distortion token)))
+    (call .1 .1 _ _ (λ n low high. sole-ready n _ (pre .0) (pre .1 .0) (omega (arith, high, end .1 .0)) (end .1 .1 n low high ∙ sym shared) distortion token)))
 
 same-length : tie.Need-same-length Inv-loop μ-loop
 same-length c = c .before .loop .inv .size

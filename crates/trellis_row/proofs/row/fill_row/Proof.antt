@@ -8,7 +8,7 @@ use Rattle.prices.specs.Book.{bookOf}
 use lib.ListN.{length, length-set}
 use native.Mathlib.Nat.{le-refl}
 use native.Mathlib.Omega.{arith}
-use mathlib.Core.Path.{_≡_, refl, ap, _∙_}
+use mathlib.Core.Path.{_≡_, refl, sym, ap, _∙_}
 use Prim.Native.Nat.{ℕ, _+_, _-_, _*_, _≤_}
 use borrow.Author.Needs.{needs}
 use Rattle.trellis_row.proofs.row.fill_row.Statement.{statement}
@@ -97,7 +97,7 @@ locals-in-requires c κs =
     (work .priced, (c .before .before .before .context .ensures .1, (work .usable, (at-loop .before .before .distortions .ensures, at-loop .loop .inv .1))))
 
 run-end-requires : tie.Need-run-end-requires Inv-loop μ-loop
-run-end-requires c κs = (coding-of (c .before .before .before .before .before .before .before .before .before .before .before .before .before .before .before .before .before .before .before .before .before .pre .0), (c .before .before .before .before .before .before .before .before .before .loop-test .taken, c .before .before .before .before .context .ensures .0))
+run-end-requires c κs = (coding-of (c .before .before .before .before .before .before .before .before .before .before .before .before .before .before .before .before .before .before .before .before .before .pre .0), c .before .before .before .before .before .before .before .before .before .loop-test .taken)
 
 fill-run-requires : tie.Need-fill-run-requires Inv-loop μ-loop
 fill-run-requires c κs =
@@ -131,6 +131,7 @@ loop-again-2 c =
     let at-loop = c .before .before .before .before .before .before .before .before .before .before .before .before .before .before .before .before .before .before .before .before in
     let work = at-loop .before .before .before .before .before .before .before .before .before .before .before .pre .0 in
     let end = c .before .before .before .before .before .before .before .before .before .run-end .ensures in
+    let shared = c .before .before .before .before .before .before .before .before .before .before .before .before .before .before .context .ensures .0 in
     let zero = at-loop .before .zero-index .ensures in
     let call = c .before .before .before .before .fill-run .ensures in
     let local = c .before .before .before .before .before .before .before .before .before .before .locals-in .ensures in (
@@ -139,7 +140,7 @@ loop-again-2 c =
           (λ n low high.
           record {
             work = workable-less (omega (arith, high, end .1 .0)) work;
-            located = located-at _ _ _ _ _ _ n _ (end .1 .1 n low high) (local .0);
+            located = located-at _ _ _ _ _ _ n _ (end .1 .1 n low high ∙ sym shared) (local .0);
             zero-at = zero .0;
             zero-none = zero .1;
           })),

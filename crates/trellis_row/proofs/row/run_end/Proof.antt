@@ -1,8 +1,7 @@
 use Rattle.trellis_row.proofs.Rows.{alike-context}
 use Rattle.steps.specs.Place.{contextAt}
 use native.Mathlib.Omega.{arith}
-use mathlib.Core.Path.{_≡_, sym, subst, _∙_}
-use Prim.Native.Nat.{ℕ}
+use mathlib.Core.Path.{_≡_, sym, ap}
 use borrow.Author.Needs.{needs}
 use Rattle.trellis_row.proofs.row.run_end.Statement.{statement}
 use Rattle.trellis_row.proofs.row.run_end.Tie as tie
@@ -16,7 +15,7 @@ returns c =
         omega arith,
         λ n low high.
             let here : start .args .from ≡ n = omega arith in
-            subst (λ (m : ℕ). contextAt (start .args .place) m ≡ start .args .context) here (sym (start .pre .1 .1)),
+            ap (contextAt (start .args .place)) (sym here),
       ),
     )
 
@@ -30,7 +29,7 @@ returns-2 c =
       alike .from,
       (
         omega (arith, c .if2 .taken),
-        λ n low high. alike-context _ alike (c .before .before .if1 .left) n low high ∙ sym (start .pre .1 .1),
+        λ n low high. alike-context _ alike (c .before .before .if1 .left) n low high,
       ),
     )
 
@@ -39,10 +38,10 @@ returns-3 c =
     let start = c .before .before .before in
     let alike = c .before .last-count-alike .ensures in
     let past = c .if2 .left in (
-      start .pre .1 .0,
+      start .pre .1,
       (
         omega arith,
-        λ n low high. alike-context _ alike (c .before .before .if1 .left) n low (omega (arith, past)) ∙ sym (start .pre .1 .1),
+        λ n low high. alike-context _ alike (c .before .before .if1 .left) n low (omega (arith, past)),
       ),
     )
 
