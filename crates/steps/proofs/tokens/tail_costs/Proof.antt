@@ -4,11 +4,14 @@ use Rattle.steps.proofs.Zero.{handed-back, handed-current}
 use Rattle.least_cost.proofs.Trial.{nz-le}
 use Rattle.least_cost.specs.Position.{nz}
 use lib.Ieee.{ofBits}
+use lib.Dec.{lit≤}
 use lib.IntN.{ℤ}
 use lib.ListN.{length}
 use mathlib.Core.List.{List}
 use native.Mathlib.Nat.{le-refl}
+use Rattle.ac_context.specs.Contexts.{Coefficient}
 use Rattle.block.specs.Block.{nonzerosAmong}
+use Rattle.steps.specs.Plan.{Whole}
 use native.Mathlib.Omega.{arith}
 use Prim.Native.Nat.{ℕ, _≤_, _<_, _-_, _+_}
 use mathlib.Core.Path.{_≡_, sym, _∙_, ap}
@@ -32,37 +35,28 @@ level-at-requires c κs =
     let here = some-left _ _ _ _ (start .pre .1 .1 .1 .1) (c .if1 .left) .1 in
     (here, start .pre .1 .1 .0 .within _ here)
 
+-- so the first token has a context
+first-coded : {c from count prev : ℕ} {scan : List ℕ} {levels : List ℤ} → Whole c from scan levels → c ≤ from → count ≡ nonzerosAmong scan levels from (length scan - from) → (count ≡ 0 → ⊥) → prev ≤ 1
+    → Coefficient c count from prev
+first-coded w coded e some flag =
+    let left = some-left _ _ _ _ e some in
+    record { some = omega (arith, some); left = omega (arith, w .size, left .0, left .1); coded = coded; flag = omega arith }
+
 token-cost-requires : tie.Need-token-cost-requires
 token-cost-requires c κs =
-    let start = c .before .before .before .before .before .before .before in
-    let whole = start .pre .1 .1 .0 in
+    let pre = c .before .before .before .before .before .before .before .pre in
+    let whole = pre .1 .1 .0 in
     let some = c .before .if1 .left in
-    let left = some-left _ _ _ _ (start .pre .1 .1 .1 .1) some in (
-      start .pre .0,
-      (
-        start .pre .1 .0,
-        (
-          record { some = omega (arith, some); left = omega (arith, whole .size, left .0, left .1); coded = start .pre .1 .1 .1 .0 .0; flag = omega arith },
-          handed-current _ _ (c .level-at .ensures) (whole .level _ (le-refl _) (left .1)),
-        ),
-      ),
-    )
+    let level = whole .level _ (le-refl _) (some-left _ _ _ _ (pre .1 .1 .1 .1) some .1) in
+    (pre .0, (pre .1 .0, (first-coded whole (pre .1 .1 .1 .0 .0) (pre .1 .1 .1 .1) some (lit≤ tt), handed-current _ _ (c .level-at .ensures) level)))
 
 token-cost-requires-2 : tie.Need-token-cost-requires-2
 token-cost-requires-2 c κs =
-    let start = c .before .before .before .before .before .before .before .before in
-    let whole = start .pre .1 .1 .0 in
+    let pre = c .before .before .before .before .before .before .before .before .pre in
+    let whole = pre .1 .1 .0 in
     let some = c .before .before .if1 .left in
-    let left = some-left _ _ _ _ (start .pre .1 .1 .1 .1) some in (
-      start .pre .0,
-      (
-        start .pre .1 .0,
-        (
-          record { some = omega (arith, some); left = omega (arith, whole .size, left .0, left .1); coded = start .pre .1 .1 .1 .0 .0; flag = omega arith },
-          handed-current _ _ (c .before .level-at .ensures) (whole .level _ (le-refl _) (left .1)),
-        ),
-      ),
-    )
+    let level = whole .level _ (le-refl _) (some-left _ _ _ _ (pre .1 .1 .1 .1) some .1) in
+    (pre .0, (pre .1 .0, (first-coded whole (pre .1 .1 .1 .0 .0) (pre .1 .1 .1 .1) some (lit≤ tt), handed-current _ _ (c .before .level-at .ensures) level)))
 
 nonzero-requires : tie.Need-nonzero-requires
 nonzero-requires c κs = search needs
