@@ -15,8 +15,8 @@ use lib.Ieee.Scale.{finite}
 use Rattle.costs.specs.Cost.{cost}
 use Rattle.costs.proofs.View.{at-inf, viewed}
 use Rattle.costs.proofs.Sum.{add-cost, finite-terms}
-use Rattle.beam_row.specs.Path.{Path, Way, wayRemaining, wayCost, wayLevels, ways, noWay}
-use Rattle.beam_row.specs.Step.{extended, countsNamed, reaching, merged, mergedAt, kept, stepped}
+use Rattle.beam_paths.specs.Path.{Path, Way, wayRemaining, wayCost, wayLevels, ways, noWay}
+use Rattle.beam_paths.specs.Step.{extended, countsNamed, reaching, merged, mergedAt, kept, stepped}
 use Rattle.least_cost.specs.Choice.{Choice, done, takes, remaining, costOf}
 use Rattle.least_cost.specs.Position.{Position, Tail, nz}
 use Rattle.least_cost.specs.Search.{least, holder}

@@ -9,7 +9,7 @@ use lib.Dec.{T, eqb}
 use lib.IntN.{ℤ}
 use lib.Ieee.{Float, inf}
 use lib.Ieee.Scale.{finite}
-use Rattle.beam_row.specs.Path.{Path}
+use Rattle.beam_paths.specs.Path.{Path}
 use Rattle.block.specs.Band.{halfWidth, positionsFrom, pastWindow, tailOf, problemOf}
 use Rattle.block.specs.Block.{Block, withLevels, covered, inputRemaining}
 use Rattle.block.specs.Checks.{blockRefusal}

@@ -10,9 +10,9 @@ use lib.Dec.{T, leb}
 use lib.ListN.{length, getD, drop}
 use lib.Ieee.{Float, nan, inf, lt, add, binary32}
 use lib.Ieee.Scale.{finite}
-use Rattle.beam_row.specs.Held.{noPath, PathsFor}
-use Rattle.beam_row.specs.Path.{Path}
-use Rattle.beam_row.specs.declared.Paths.{Paths}
+use Rattle.beam_paths.specs.Held.{noPath, PathsFor}
+use Rattle.beam_paths.specs.Path.{Path}
+use Rattle.beam_paths.specs.declared.Paths.{Paths}
 use Rattle.block.specs.Band.{problemOf}
 use Rattle.block.specs.Block.{Block, covered}
 use Rattle.block.specs.Cost.{firstPrev, countCost}

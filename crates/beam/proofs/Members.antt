@@ -10,8 +10,8 @@ use lib.Dec.{eqb, leb}
 use lib.IntN.{ℤ, pos}
 use lib.ListN.{length, getD, take, length-take}
 use lib.Ieee.{lt}
-use Rattle.beam_row.specs.Path.{Path, Way, wayRemaining, wayCost, wayLevels, waysOf, ways}
-use Rattle.beam_row.specs.Step.{extended, has, naming, countsNamed, reaching, merged, mergedAt, key, insert, sorting, kept}
+use Rattle.beam_paths.specs.Path.{Path, Way, wayRemaining, wayCost, wayLevels, waysOf, ways}
+use Rattle.beam_paths.specs.Step.{extended, has, naming, countsNamed, reaching, merged, mergedAt, key, insert, sorting, kept}
 use Rattle.least_cost.specs.Position.{Position}
 
 -- ---- the paths that are kept

@@ -9,8 +9,8 @@ use lib.Dec.{T, leb, lit≤}
 use lib.ListN.{length, getD}
 use lib.Ieee.{Float, inf, binary32, add, le}
 use lib.Ieee.Scale.{finite}
-use Rattle.beam_row.specs.Held.{noPath}
-use Rattle.beam_row.specs.Path.{Path}
+use Rattle.beam_paths.specs.Held.{noPath}
+use Rattle.beam_paths.specs.Path.{Path}
 use Rattle.block.specs.Band.{positionAt, positionsFrom, tailOf, problemOf, halfWidth}
 use Rattle.block.specs.Block.{Block, covered}
 use Rattle.block.specs.Cost.{firstPrev, countCost}

@@ -9,7 +9,7 @@ use lib.Dec.{lit≤}
 use lib.IntN.{ℤ, pos}
 use lib.ListN.{length, getD}
 use lib.Ieee.{Float, nan, fin}
-use Rattle.beam_row.specs.Held.{PathsFor, noPath}
+use Rattle.beam_paths.specs.Held.{PathsFor, noPath}
 use Rattle.block.specs.Block.{Block, covered, nonzerosAmong, inputRemaining}
 use Rattle.block.specs.Band.{positionsFrom, tailOf, pastWindow}
 use Rattle.block.specs.Cost.{tokensFrom, tailCost}

@@ -8,10 +8,11 @@ use lib.Dec.{T}
 use lib.ListN.{length, getD}
 use lib.Ieee.{Float}
 use lib.Ieee.Scale.{finite}
-use Rattle.beam_row.specs.Held.{PathsFor, Named, Spot, spotOf, Stands, Takeable, Taken}
-use Rattle.beam_row.specs.Step.{stepped}
-use Rattle.beam_row.specs.declared.Paths.{Paths}
-use Rattle.beam_row.specs.declared.Step.{Step}
+use Rattle.beam_paths.specs.Held.{PathsFor, Named}
+use Rattle.beam_paths.specs.Step.{stepped}
+use Rattle.beam_paths.specs.declared.Paths.{Paths}
+use Rattle.beam_paths.specs.declared.Step.{Step}
+use Rattle.beam_row.specs.Held.{Spot, spotOf, Stands, Takeable, Taken}
 use Rattle.block.specs.Block.{Block, covered, inputAt, ideal, candidatesAt}
 use Rattle.block.specs.Band.{positionAt, positionsFrom}
 use Rattle.block_checks.specs.Passed.{Passed}

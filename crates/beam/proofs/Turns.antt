@@ -9,8 +9,8 @@ use lib.IntN.{ℤ}
 use lib.Dec.{eqb}
 use lib.ListN.{length, getD}
 use lib.Ieee.{Float}
-use Rattle.beam_row.specs.Held.{PathsFor, Named}
-use Rattle.beam_row.specs.declared.Paths.{Paths}
+use Rattle.beam_paths.specs.Held.{PathsFor, Named}
+use Rattle.beam_paths.specs.declared.Paths.{Paths}
 use Rattle.block.specs.Block.{Block}
 use Rattle.prices.specs.Book.{Book}
 use Rattle.steps.specs.declared.reading.Plan.{Plan}

@@ -7,8 +7,8 @@ use lib.Dec.{eqb}
 use lib.IntN.{ℤ, pos}
 use lib.ListN.{length, getD}
 use lib.Ieee.{Float, inf}
-use Rattle.beam_row.specs.Path.{Path, Way, wayCost, wayRemaining, wayLevels, ways, noWay}
-use Rattle.beam_row.specs.Step.{extended, countsNamed, merged, mergedAt, kept, stepped}
+use Rattle.beam_paths.specs.Path.{Path, Way, wayCost, wayRemaining, wayLevels, ways, noWay}
+use Rattle.beam_paths.specs.Step.{extended, countsNamed, merged, mergedAt, kept, stepped}
 use Rattle.block.specs.Band.{positionAt, positionsFrom, tailOf, problemOf}
 use Rattle.block.specs.Block.{Block, candidatesAt}
 use Rattle.block.specs.Cost.{localCost, firstPrev}

@@ -14,8 +14,8 @@ use lib.ListN.{length, getD, drop, set, length-take}
 use lib.Seq.{getD-take}
 use lib.Ieee.{Float}
 use lib.Ieee.Scale.{finite}
-use Rattle.beam_row.specs.Held.{wayOf, Named}
-use Rattle.beam_row.specs.Path.{Way, wayLevels}
+use Rattle.beam_paths.specs.Held.{wayOf, Named}
+use Rattle.beam_paths.specs.Path.{Way, wayLevels}
 use Rattle.block.specs.Block.{Block, withLevels, covered, inputAt, ideal, candidatesAt}
 use Rattle.block.specs.Band.{positionAt}
 use Rattle.block.specs.Cost.{firstPrev}

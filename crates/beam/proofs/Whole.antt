@@ -9,9 +9,9 @@ use lib.ListN.{length, getD}
 use lib.Dec.{T}
 use lib.Ieee.{Float, inf, lt}
 use lib.Ieee.Scale.{finite}
-use Rattle.beam_row.specs.Held.{PathsFor}
-use Rattle.beam_row.specs.Path.{Path}
-use Rattle.beam_row.specs.declared.Paths.{Paths}
+use Rattle.beam_paths.specs.Held.{PathsFor}
+use Rattle.beam_paths.specs.Path.{Path}
+use Rattle.beam_paths.specs.declared.Paths.{Paths}
 use Rattle.block.specs.Band.{problemOf}
 use Rattle.block.specs.Block.{covered}
 use Rattle.block.specs.Cost.{firstPrev}

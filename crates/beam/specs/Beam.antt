@@ -7,8 +7,8 @@ use lib.IntN.{ℤ}
 use lib.ListN.{length, replicate}
 use lib.Ieee.{Float, inf, binary32, add}
 use lib.Ieee.Scale.{finite}
-use Rattle.beam_row.specs.Path.{Path, noWay}
-use Rattle.beam_row.specs.Step.{stepped}
+use Rattle.beam_paths.specs.Path.{Path, noWay}
+use Rattle.beam_paths.specs.Step.{stepped}
 use Rattle.block.specs.Band.{problemOf, halfWidth}
 use Rattle.block.specs.Block.{Block, covered}
 use Rattle.block.specs.Checks.{searchRefusal, beamRoom}

@@ -8,7 +8,7 @@ use lib.Dec.{T}
 use lib.IntN.{ℤ}
 use lib.Ieee.{Float, inf, le}
 use lib.Ieee.Scale.{finite}
-use Rattle.beam_row.specs.Path.{Path}
+use Rattle.beam_paths.specs.Path.{Path}
 use Rattle.block.specs.Band.{halfWidth}
 use Rattle.block.specs.Block.{Block, withLevels, covered, inputRemaining}
 use Rattle.block.specs.Choice.{IsChoice, inWindow}

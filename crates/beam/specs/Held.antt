@@ -8,9 +8,9 @@ use lib.ListN.{length, getD}
 use lib.Dec.{T}
 use lib.Ieee.{Float, lt}
 use lib.Ieee.Scale.{finite}
-use Rattle.beam_row.specs.Held.{PathsFor, Named, noPath}
-use Rattle.beam_row.specs.Path.{Path}
-use Rattle.beam_row.specs.declared.Paths.{Paths}
+use Rattle.beam_paths.specs.Held.{PathsFor, Named, noPath}
+use Rattle.beam_paths.specs.Path.{Path}
+use Rattle.beam_paths.specs.declared.Paths.{Paths}
 use Rattle.block.specs.Block.{Block, covered}
 use Rattle.block.specs.Band.{positionAt, positionsFrom, tailOf, halfWidth}
 use Rattle.block.specs.Checks.{blockRefusal}

@@ -1,13 +1,13 @@
 // The last step: the first least over the paths that are kept.
-use beam_row::Paths;
+use beam_paths::Paths;
 use steps::reading::Plan;
 use steps::tokens;
 ghost use mathlib.Core.Path.{_≡_};
 ghost use mathlib.Core.List.{List};
 ghost use Prim.Native.Nat.{_<_};
 ghost use lib.ListN.{getD};
-ghost use Rattle.beam_row.specs.Held.{PathsFor, noPath};
-ghost use Rattle.beam_row.specs.Path.{Path};
+ghost use Rattle.beam_paths.specs.Held.{PathsFor, noPath};
+ghost use Rattle.beam_paths.specs.Path.{Path};
 ghost use Rattle.block.specs.Block.{Block};
 ghost use Rattle.prices.specs.Book.{bookOf};
 ghost use Rattle.steps.specs.Plan.{Planned};

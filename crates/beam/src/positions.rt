@@ -1,10 +1,10 @@
 // The positions from the last to the first: the paths of each, and its six choice bytes.
-use beam_row::Paths;
+use beam_paths::Paths;
 use steps::reading::Plan;
 ghost use mathlib.Core.Path.{_≡_};
 ghost use Prim.Native.Nat.{suc, _+_, _*_, _≤_, _<_};
 ghost use lib.ListN.{length};
-ghost use Rattle.beam_row.specs.Held.{PathsFor};
+ghost use Rattle.beam_paths.specs.Held.{PathsFor};
 ghost use Rattle.prices.specs.Book.{bookOf};
 ghost use Rattle.beam.specs.Beam.{windowLength};
 ghost use Rattle.beam.specs.Held.{Searched, paths, Stored, Stepped, Reached};

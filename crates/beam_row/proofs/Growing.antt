@@ -16,14 +16,15 @@ use Rattle.least_cost.proofs.Trial.{nz-le}
 use Rattle.prices.specs.Book.{Book}
 use Rattle.steps.specs.Place.{localAt}
 use Rattle.steps.specs.Plan.{listed}
-use Rattle.beam_row.specs.Path.{Path, Way, wayRemaining, ways}
-use Rattle.beam_row.specs.Step.{has, naming, countsNamed, merged, mergedAt, key, insert, sorting, kept, extended, stepped}
-use Rattle.beam_row.specs.Held.{noPath, PathsFor, Spot, Stands, Takeable}
-use Rattle.beam_row.specs.Entries.{named}
-use Rattle.beam_row.specs.declared.Paths.{Paths}
-use Rattle.beam_row.specs.declared.counts.Counts.{Counts}
-use Rattle.beam_row.proofs.Naming.{counts-none, counts-cons}
-use Rattle.beam_row.proofs.Keeping.{extended-none, extended-cons}
+use Rattle.beam_paths.specs.Path.{Path, Way, wayRemaining, ways}
+use Rattle.beam_paths.specs.Step.{has, naming, countsNamed, merged, mergedAt, key, insert, sorting, kept, extended, stepped}
+use Rattle.beam_paths.specs.Held.{noPath, PathsFor}
+use Rattle.beam_paths.specs.Entries.{named}
+use Rattle.beam_paths.specs.declared.Paths.{Paths}
+use Rattle.beam_paths.specs.declared.counts.Counts.{Counts}
+use Rattle.beam_row.specs.Held.{Spot, Stands, Takeable}
+use Rattle.beam_paths.proofs.Naming.{counts-none, counts-cons}
+use Rattle.beam_paths.proofs.Keeping.{extended-none, extended-cons}
 
 module _ {A : Type 0} where
   pub mem-at : (l : List A) (i : ℕ) (d : A) → i < length l → Mem (getD l i d) l

@@ -16,12 +16,13 @@ use Rattle.least_cost.specs.Position.{Position}
 use Rattle.least_cost.specs.Search.{least, holder}
 use Rattle.least_cost.proofs.First.{least-append, holder-append}
 use Rattle.least_cost.proofs.Trial.{nz-le}
-use Rattle.beam_row.specs.Path.{Path, Way, wayRemaining, wayCost, wayLevels, waysOf, ways, noWay}
-use Rattle.beam_row.specs.Step.{reaching, merged}
-use Rattle.beam_row.specs.Held.{noPath, wayOf, Named}
-use Rattle.beam_row.specs.Entries.{considered, wayAt, ByWay, BestOf, BothOf, EntryIs}
-use Rattle.beam_row.specs.declared.entry.Best.{Best}
-use Rattle.beam_row.specs.declared.entry.Entry.{Entry}
+use Rattle.beam_paths.specs.Path.{Path, Way, wayRemaining, wayCost, wayLevels, waysOf, ways, noWay}
+use Rattle.beam_paths.specs.Step.{reaching, merged}
+use Rattle.beam_paths.specs.Held.{noPath, wayOf, Named}
+use Rattle.beam_paths.specs.Entries.{considered, EntryIs}
+use Rattle.beam_paths.specs.declared.entry.Best.{Best}
+use Rattle.beam_paths.specs.declared.entry.Entry.{Entry}
+use Rattle.beam_row.specs.Entries.{wayAt, ByWay, BestOf, BothOf}
 
 -- ---- the ways as lists
 pub ways-more : (xs : List Path) (x : Path) (cs : List ℤ) → ways (xs ++ (x ∷ [])) cs ≡ ways xs cs ++ waysOf x cs

@@ -7,13 +7,14 @@ use lib.ListN.{length, getD}
 use borrow.Author.Tests.{eq-eqb, ne-eqb}
 use Rattle.least_cost.specs.Position.{Position}
 use Rattle.prices.specs.Book.{Book}
-use Rattle.beam_row.specs.Path.{Path, ways}
-use Rattle.beam_row.specs.Step.{countsNamed, mergedAt, kept, extended, stepped}
-use Rattle.beam_row.specs.Held.{PathsFor, Spot, Stands, Remembered, Takeable, Taken}
-use Rattle.beam_row.specs.Entries.{KeptIs}
-use Rattle.beam_row.specs.declared.Paths.{Paths}
-use Rattle.beam_row.specs.declared.Step.{Step}
-use Rattle.beam_row.specs.declared.kept.Kept.{Kept}
+use Rattle.beam_paths.specs.Path.{Path, ways}
+use Rattle.beam_paths.specs.Step.{countsNamed, mergedAt, kept, extended, stepped}
+use Rattle.beam_paths.specs.Held.{PathsFor, Remembered}
+use Rattle.beam_paths.specs.Entries.{KeptIs}
+use Rattle.beam_paths.specs.declared.Paths.{Paths}
+use Rattle.beam_paths.specs.declared.Step.{Step}
+use Rattle.beam_paths.specs.declared.kept.Kept.{Kept}
+use Rattle.beam_row.specs.Held.{Spot, Stands, Takeable, Taken}
 use Rattle.beam_row.proofs.Trying.{candidates-length}
 use Rattle.beam_row.proofs.Growing.{counts-next-upto}
 

@@ -18,12 +18,14 @@ use Rattle.prices.specs.Book.{Book}
 use Rattle.steps.specs.Place.{contextAt, localIn, localAt, distortionAt}
 use Rattle.steps.specs.Plan.{listed, Usable, Each}
 use Rattle.steps.proofs.Listed.{listed-length, usable-listed}
-use Rattle.beam_row.specs.Path.{Path, Way, wayRemaining, wayCost, wayLevels, waysOf, ways}
-use Rattle.beam_row.specs.Step.{merged}
-use Rattle.beam_row.specs.Held.{noPath, PathsFor, Spot, Stands, Takeable, Named}
-use Rattle.beam_row.specs.Entries.{Priced, wayAt, taking, tried, alone, PathIs, Leads, BothOf, EntryIs}
-use Rattle.beam_row.specs.declared.Paths.{Paths}
-use Rattle.beam_row.specs.declared.entry.Entry.{Entry}
+use Rattle.beam_paths.specs.Path.{Path, Way, wayRemaining, wayCost, wayLevels, waysOf, ways}
+use Rattle.beam_paths.specs.Step.{merged}
+use Rattle.beam_paths.specs.Held.{noPath, PathsFor, Named}
+use Rattle.beam_paths.specs.Entries.{taking, EntryIs}
+use Rattle.beam_paths.specs.declared.Paths.{Paths}
+use Rattle.beam_paths.specs.declared.entry.Entry.{Entry}
+use Rattle.beam_row.specs.Held.{Spot, Stands, Takeable}
+use Rattle.beam_row.specs.Entries.{Priced, wayAt, tried, alone, PathIs, Leads, BothOf}
 use Rattle.beam_row.proofs.Growing.{mem-at}
 use Rattle.beam_row.proofs.Reach.{best-other, best-more, byte-way, both-past, both-merged, ways-next, paths-next}
 

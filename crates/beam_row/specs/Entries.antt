@@ -1,12 +1,12 @@
--- What the code holds while a position is taken: the counts named, one path with its choices, and the paths kept so far.
-use Prim.Native.Nat.{ℕ, _+_, _/_, _%_, _≤_, _<_}
+-- What the code holds while the ways are tried: the prices, and the best so far.
+use Prim.Native.Nat.{ℕ, _+_, _/_, _%_, _<_}
 use mathlib.Core.Path.{_≡_}
-use mathlib.Core.Bool.{false, cond}
+use mathlib.Core.Bool.{false}
 use mathlib.Core.List.{List}
 use lib.IntN.{ℤ, pos}
-use lib.ListN.{length, getD, take}
+use lib.ListN.{length, getD}
 use lib.Dec.{T}
-use lib.Ieee.{Float, inf, lt, add, binary32}
+use lib.Ieee.{Float, inf, add, binary32}
 use lib.Ieee.Scale.{finite}
 use Rattle.candidates.specs.Candidates.{inArray}
 use Rattle.least_cost.specs.Position.{Position}
@@ -16,22 +16,13 @@ use Rattle.prices.specs.Checks.{bookRefusal}
 use Rattle.steps.specs.Place.{distortionAt, contextAt, localIn}
 use Rattle.steps.specs.Plan.{listed, Usable, Each}
 use Rattle.steps.specs.declared.Place.{Place}
-use Rattle.beam_row.specs.Path.{Path, Way, wayRemaining, wayCost, wayLevels, noWay}
-use Rattle.beam_row.specs.Step.{reaching}
-use Rattle.beam_row.specs.Held.{noPath, wayOf, Named}
-use Rattle.beam_row.specs.declared.Paths.{Paths}
-use Rattle.beam_row.specs.declared.counts.Counts.{Counts}
-use Rattle.beam_row.specs.declared.entry.Best.{Best}
-use Rattle.beam_row.specs.declared.entry.Entry.{Entry}
-use Rattle.beam_row.specs.declared.kept.Kept.{Kept}
-
--- the counts that are named
-abbrev pub named : Counts → List ℕ
-named c = take (c .length) (c .counts)
-
--- a cost that is below the least so far takes its place
-unfoldable pub considered : Best → Float → ℕ → Best
-considered b x choice = cond (lt x (b .cost)) (record { cost = x; choice = choice }) b
+use Rattle.beam_paths.specs.Path.{Path, Way, wayRemaining, wayCost, noWay}
+use Rattle.beam_paths.specs.Step.{reaching}
+use Rattle.beam_paths.specs.Held.{noPath, wayOf}
+use Rattle.beam_paths.specs.Entries.{considered}
+use Rattle.beam_paths.specs.declared.Paths.{Paths}
+use Rattle.beam_paths.specs.declared.entry.Best.{Best}
+use Rattle.beam_paths.specs.declared.entry.Entry.{Entry}
 
 -- the paths from their parts
 abbrev pub gathered : ℕ → List ℕ → List Float → Paths
@@ -78,12 +69,6 @@ alone book x remaining q tail choice =
 abbrev pub wayAt : Position → List Path → ℕ → ℕ → Way
 wayAt q xs j i = record { path = getD xs j noPath; level = getD (q .candidates) i (pos 0) }
 
--- path x with the level c
-abbrev pub taking : Position → ℤ → Path → Path
-taking q c x =
-    let w : Way = record { path = x; level = c } in
-    record { remaining = wayRemaining w; cost = λ p. wayCost q p w; levels = λ p. wayLevels w }
-
 -- w is the way that a choice names, it reaches count n, and this is its cost
 pub record ByWay (q : Position) (xs : List Path) (n p : ℕ) (w : Way) (b : Best) : Type 0 where
   pub path : b .choice / 16 < length xs
@@ -101,19 +86,3 @@ pub record BestOf (q : Position) (xs : List Path) (n p : ℕ) (ws : List Way) (b
 pub record BothOf (q : Position) (xs : List Path) (ws : List Way) (e : Entry) : Type 0 where
   pub first : BestOf q xs (e .remaining) 0 ws (e .first)
   pub second : BestOf q xs (e .remaining) 1 ws (e .second)
-
--- e holds path y, and where its cost is finite the choice names the way that it came by
-pub record EntryIs (q : Position) (xs : List Path) (y : Path) (e : Entry) : Type 0 where
-  pub remaining-is : e .remaining ≡ y .remaining
-  pub first-is : e .first .cost ≡ y .cost 0
-  pub second-is : e .second .cost ≡ y .cost 1
-  pub first-by : T (finite (y .cost 0)) → Named q xs 0 (e .first .choice) y
-  pub second-by : T (finite (y .cost 1)) → Named q xs 1 (e .second .choice) y
-
--- k holds the paths ys, in their order
-pub record KeptIs (q : Position) (xs ys : List Path) (k : Kept) : Type 0 where
-  pub count-is : length ys ≡ k .count
-  pub few : length ys ≤ 3
-  pub one : 0 < length ys → EntryIs q xs (getD ys 0 noPath) (k .one)
-  pub two : 1 < length ys → EntryIs q xs (getD ys 1 noPath) (k .two)
-  pub three : 2 < length ys → EntryIs q xs (getD ys 2 noPath) (k .three)

@@ -1,6 +1,3 @@
--- One position of the beam: `Path` what a path is, `Step` how the paths behind a position become the paths from it on, `Held` what the code holds of them,
--- `Entries` what it holds on the way.
-pub mod Path
-pub mod Step
+-- One position of the beam: `Held` what a step is worked out from and what it leaves, `Entries` what the code holds while the ways are tried.
 pub mod Held
 pub mod Entries

@@ -1,10 +1,9 @@
 // One position of the beam.
-mod counts;
-mod entry;
-mod kept;
 mod ways;
 
-use crate::kept::Kept;
+use beam_paths::Paths;
+use beam_paths::Step;
+use beam_paths::kept::Kept;
 use steps::Place;
 ghost use mathlib.Core.Path.{_≡_};
 ghost use mathlib.Core.List.{List, []};
@@ -13,23 +12,11 @@ ghost use lib.IntN.{pos};
 ghost use lib.ListN.{length, getD};
 ghost use Rattle.least_cost.specs.Position.{Position};
 ghost use Rattle.prices.specs.Book.{bookOf};
-ghost use Rattle.beam_row.specs.Path.{Path, ways as waysBy};
-ghost use Rattle.beam_row.specs.Step.{extended, countsNamed, mergedAt, kept as cheapest};
-ghost use Rattle.beam_row.specs.Held.{PathsFor, spotOf, Stands, Takeable, Taken};
-ghost use Rattle.beam_row.specs.Entries.{KeptIs};
-
-// At most three paths. The cost for `prev` p of path j stands at 2 j + p.
-pub struct Paths {
-    pub count: usize,
-    pub remaining: [usize; 3],
-    pub costs: [f32; 6],
-}
-
-// The paths from a position on, and at 2 j + p the way that path j came by for `prev` p: the path behind the position, times 16, and the index of the candidate.
-pub struct Step {
-    pub paths: Paths,
-    pub choices: [u8; 6],
-}
+ghost use Rattle.beam_paths.specs.Path.{Path, ways as waysBy};
+ghost use Rattle.beam_paths.specs.Step.{extended, countsNamed, mergedAt, kept as cheapest};
+ghost use Rattle.beam_paths.specs.Held.{PathsFor};
+ghost use Rattle.beam_paths.specs.Entries.{KeptIs};
+ghost use Rattle.beam_row.specs.Held.{spotOf, Stands, Takeable, Taken};
 
 // A sole candidate: every path takes it.
 fn extend(
@@ -91,7 +78,7 @@ fn merge(
 {
     let mut distortion = [0.0f32; 5];
     steps::reading::distortions(place, levels, count, &mut distortion);
-    let counts = counts::counts_named(paths);
+    let counts = beam_paths::counts::counts_named(paths);
     let remaining = paths.remaining;
     let costs = paths.costs;
     let mut kept = Kept::none();

@@ -1,6 +1,6 @@
 // The ways to take one position more: a path behind the position, and a candidate.
-use crate::entry::Best;
-use crate::entry::Entry;
+use beam_paths::entry::Best;
+use beam_paths::entry::Entry;
 use steps::Place;
 ghost use mathlib.Core.Path.{_≡_};
 ghost use mathlib.Core.List.{List, _++_};
@@ -13,10 +13,12 @@ ghost use Rattle.least_cost.specs.Position.{Position};
 ghost use Rattle.prices.specs.Book.{bookOf};
 ghost use Rattle.prices.specs.Checks.{bookRefusal};
 ghost use Rattle.steps.specs.Place.{distortionAt, contextAt};
-ghost use Rattle.beam_row.specs.Path.{Path, Way, waysOf, ways};
-ghost use Rattle.beam_row.specs.Step.{merged};
-ghost use Rattle.beam_row.specs.Held.{noPath, PathsFor, spotOf, Stands, Takeable};
-ghost use Rattle.beam_row.specs.Entries.{gathered, Priced, PathIs, Leads, tried, alone, BothOf, EntryIs};
+ghost use Rattle.beam_paths.specs.Path.{Path, Way, waysOf, ways};
+ghost use Rattle.beam_paths.specs.Step.{merged};
+ghost use Rattle.beam_paths.specs.Held.{noPath, PathsFor};
+ghost use Rattle.beam_paths.specs.Entries.{EntryIs};
+ghost use Rattle.beam_row.specs.Held.{spotOf, Stands, Takeable};
+ghost use Rattle.beam_row.specs.Entries.{gathered, Priced, PathIs, Leads, tried, alone, BothOf};
 
 // One candidate more. Both values of `prev` are priced together, and each keeps its own best.
 fn try_way(

@@ -1,7 +1,8 @@
-use Rattle.beam_row.specs.Path.{Path}
-use Rattle.beam_row.specs.Step.{extended}
-use Rattle.beam_row.specs.Held.{PathsFor, spotOf, Stands}
-use Rattle.beam_row.specs.Entries.{KeptIs}
+use Rattle.beam_paths.specs.Path.{Path}
+use Rattle.beam_paths.specs.Step.{extended}
+use Rattle.beam_paths.specs.Held.{PathsFor}
+use Rattle.beam_paths.specs.Entries.{KeptIs}
+use Rattle.beam_row.specs.Held.{spotOf, Stands}
 use Rattle.least_cost.specs.Position.{Position}
 use Rattle.prices.specs.Book.{bookOf}
 use mathlib.Core.List.{List}
@@ -10,7 +11,7 @@ use native.Mathlib.Omega.{arith}
 use lib.IntN.{pos}
 use lib.ListN.{getD, take}
 use Prim.Native.Nat.{ℕ, _+_, _-_, _≤_, _<_}
-use Rattle.beam_row.proofs.Keeping.{extended-none, extended-next, extended-all}
+use Rattle.beam_paths.proofs.Keeping.{extended-none, extended-next, extended-all}
 use Rattle.beam_row.proofs.Trying.{path-extended, path-here, path-count, path-tail, sum-fits, sum-coded, pair-below}
 use Rattle.steps.proofs.Listed.{usable-level}
 use borrow.Author.Needs.{needs}

@@ -1,7 +1,8 @@
-use Rattle.beam_row.specs.Path.{Path, ways}
-use Rattle.beam_row.specs.Step.{countsNamed, mergedAt}
-use Rattle.beam_row.specs.Held.{PathsFor, spotOf, Stands}
-use Rattle.beam_row.specs.Entries.{KeptIs}
+use Rattle.beam_paths.specs.Path.{Path, ways}
+use Rattle.beam_paths.specs.Step.{countsNamed, mergedAt}
+use Rattle.beam_paths.specs.Held.{PathsFor}
+use Rattle.beam_paths.specs.Entries.{KeptIs}
+use Rattle.beam_row.specs.Held.{spotOf, Stands}
 use Rattle.least_cost.specs.Position.{Position}
 use Rattle.prices.specs.Book.{bookOf}
 use mathlib.Core.List.{List, []}
@@ -9,7 +10,7 @@ use mathlib.Core.Path.{_≡_, sym, _∙_, ap}
 use native.Mathlib.Omega.{arith}
 use lib.ListN.{length, take}
 use Prim.Native.Nat.{ℕ, _+_, _-_, _≤_}
-use Rattle.beam_row.proofs.Keeping.{soFar, so-far-start, merged-next, merged-all}
+use Rattle.beam_paths.proofs.Keeping.{soFar, so-far-start, merged-next, merged-all}
 use Rattle.beam_row.proofs.Growing.{counts-coded}
 use Rattle.beam_row.proofs.Trying.{count-few, priced-of}
 use borrow.Author.Needs.{needs}

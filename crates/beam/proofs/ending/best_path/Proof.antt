@@ -1,7 +1,7 @@
 use mathlib.Core.Path.{_≡_, refl}
 use Prim.Native.Nat.{_-_, _≤_, zero-le}
 use native.Mathlib.Omega.{arith}
-use Rattle.beam_row.specs.Held.{PathsFor}
+use Rattle.beam_paths.specs.Held.{PathsFor}
 use Rattle.block.specs.Block.{Block}
 use Rattle.prices.specs.Book.{bookOf}
 use Rattle.steps.specs.Plan.{Planned}

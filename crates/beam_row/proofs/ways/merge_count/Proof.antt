@@ -1,5 +1,6 @@
-use Rattle.beam_row.specs.Path.{Path, ways}
-use Rattle.beam_row.specs.Held.{PathsFor, spotOf, Stands}
+use Rattle.beam_paths.specs.Path.{Path, ways}
+use Rattle.beam_paths.specs.Held.{PathsFor}
+use Rattle.beam_row.specs.Held.{spotOf, Stands}
 use Rattle.beam_row.specs.Entries.{gathered, BothOf}
 use Rattle.least_cost.specs.Position.{Position}
 use Rattle.prices.specs.Book.{bookOf}

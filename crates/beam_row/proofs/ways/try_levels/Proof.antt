@@ -1,5 +1,6 @@
-use Rattle.beam_row.specs.Path.{Path, Way, waysOf}
-use Rattle.beam_row.specs.Held.{noPath, spotOf, Stands}
+use Rattle.beam_paths.specs.Path.{Path, Way, waysOf}
+use Rattle.beam_paths.specs.Held.{noPath}
+use Rattle.beam_row.specs.Held.{spotOf, Stands}
 use Rattle.beam_row.specs.Entries.{Leads, BothOf}
 use Rattle.least_cost.specs.Position.{Position}
 use Rattle.prices.specs.Book.{bookOf}
