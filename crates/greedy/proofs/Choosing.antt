@@ -22,6 +22,7 @@ use Rattle.block.specs.declared.Answer.the-variants.{Count, Refused}
 use Rattle.block_checks.specs.Passed.{Passed}
 use Rattle.block_checks.proofs.Laws.{passed}
 use Rattle.candidates.proofs.Laws.{Listed, candidates-listed}
+use Rattle.greedy_cost.specs.Run.{runStart}
 use Rattle.least_cost.specs.Choice.{remaining}
 use Rattle.least_cost.specs.Position.{nz}
 use Rattle.least_cost.specs.Search.{holder}
@@ -32,7 +33,7 @@ use Rattle.scan.specs.Scan.{Perm, levelAt}
 use Rattle.scan.proofs.Through.{level-same, level-other}
 use Rattle.weights.specs.Window.{windowOf}
 use Rattle.weights.specs.declared.Window.{Window}
-use Rattle.greedy.specs.Greedy.{Outcome, othersOf, runStart, greedyCost, stays, chosen, settledAt, settledFrom, greedyLevels, greedyOutcome, CountAnswered}
+use Rattle.greedy.specs.Greedy.{Outcome, othersOf, greedyCost, stays, chosen, settledAt, settledFrom, greedyLevels, greedyOutcome, CountAnswered}
 use Rattle.steps.proofs.Ordered.{among-split}
 
 -- ---- the first least is listed where the level to fall back on is

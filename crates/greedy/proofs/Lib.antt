@@ -1,5 +1,3 @@
-pub mod Costing
-pub mod Runs
 pub mod Passing
 pub mod Stepping
 pub mod Settling

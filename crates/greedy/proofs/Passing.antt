@@ -17,6 +17,9 @@ use Rattle.candidates.specs.Candidates.{inArray, isCurrent}
 use Rattle.steps.proofs.Zero.{handed-current, current-level, level-back}
 use Rattle.block.specs.Band.{inputAfter}
 use Rattle.block.specs.Block.{Block, covered, inputAt, inputRemaining, nonzerosAmong, candidatesAt}
+use Rattle.greedy_cost.specs.Cost.{costOf}
+use Rattle.greedy_cost.specs.Run.{none, runStart, zerosFrom, Windowed}
+use Rattle.greedy_cost.proofs.Costing.{listed-length}
 use Rattle.least_cost.specs.Position.{nz}
 use Rattle.least_cost.specs.Search.{holder}
 use Rattle.prices.specs.Book.{Book}
@@ -27,9 +30,8 @@ use Rattle.steps.specs.declared.reading.Offer.{Offer}
 use Rattle.steps.proofs.Counting.{among-most}
 use Rattle.steps.proofs.Ordered.{among-split}
 use Rattle.weights.specs.Window.{windowOf}
-use Rattle.greedy.specs.Greedy.{none, othersOf, frontOf, runStart, zerosFrom, runOf, costOf, greedyCost, stays, chosen}
-use Rattle.greedy.specs.Reading.{Fitting, Ready, Windowed, countFrom}
-use Rattle.greedy.proofs.Costing.{listed-length}
+use Rattle.greedy.specs.Greedy.{othersOf, frontOf, runOf, greedyCost, stays, chosen}
+use Rattle.greedy.specs.Reading.{Fitting, Ready, countFrom}
 
 -- ---- what can be read
 module _ {p : Plan} {scan : List ℕ} {source inverse : List Float} {levels : List ℤ} {upto : ℕ} (f : Fitting p) (r : Ready p scan source inverse levels upto) where

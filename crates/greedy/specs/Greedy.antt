@@ -5,26 +5,22 @@ use mathlib.Core.Path.{_≡_}
 use mathlib.Core.Bool.{Bool, true, false, cond, _&&_, _||_}
 use mathlib.Core.List.{List}
 use lib.Dec.{eqb}
-use lib.IntN.{ℤ, pos}
+use lib.IntN.{ℤ}
 use lib.ListN.{getD, length, set}
-use lib.Ieee.{Float, fin, inf, add, mul, binary32}
+use lib.Ieee.{Float, inf}
 use Rattle.block.specs.Band.{halfWidth, inputAfter}
 use Rattle.block.specs.Block.{Block, withLevels, covered, inputAt, inputRemaining, nonzerosAmong, candidatesAt}
 use Rattle.block.specs.Checks.{searchRefusal}
 use Rattle.block.specs.Choice.{IsChoice}
-use Rattle.block.specs.Cost.{distortion, rate, tokenPrice, firstPrev, countCost}
 use Rattle.block.specs.declared.Answer.{Answer}
 use Rattle.block.specs.declared.Answer.the-variants.{Count, Refused}
+use Rattle.greedy_cost.specs.Cost.{costOf}
+use Rattle.greedy_cost.specs.Run.{none, runStart, zerosFrom}
 use Rattle.least_cost.specs.Position.{nz}
 use Rattle.least_cost.specs.Search.{holder}
 use Rattle.prices.specs.Book.{Book}
-use Rattle.scan.specs.Scan.{levelAt}
 use Rattle.weights.specs.Window.{windowOf}
 use Rattle.weights.specs.declared.Window.{Window}
-
--- 0.0
-abbrev pub none : Float
-none = fin false 0 (pos 0)
 
 -- ---- What stands around window position i. The nonzero levels behind it are `inputAfter b i`.
 -- the nonzero levels of all but position i, from scan position c on
@@ -36,16 +32,6 @@ unfoldable pub frontOf : Block → ℕ → ℕ
 frontOf b zero = 0
 frontOf b (suc i) = nz (inputAt b (covered b + i))
 
--- where the zeros begin that stand right in front of window position i; i itself where there are none
-unfoldable pub runStart : List ℕ → List ℤ → ℕ → ℕ → ℕ
-runStart scan levels c zero = 0
-runStart scan levels c (suc i) = cond (eqb (nz (levelAt scan levels (c + i))) 0) (runStart scan levels c i) (suc i)
-
--- The tokens of n zeros from window position j on, in front of the last nonzero level, added to `sum` one by one, front to back.
-unfoldable pub zerosFrom : Book → Block → ℕ → ℕ → ℕ → Float → Float
-zerosFrom book b zero j prev sum = sum
-zerosFrom book b (suc n) j prev sum = zerosFrom book b n (suc j) 0 (add binary32 sum (tokenPrice book b 1 (covered b + j) prev (pos 0)))
-
 -- The run: with no nonzero level behind it, a nonzero level has the zeros right in front of it coded. The first of them has `prev` 1: a nonzero level stands before it,
 -- or it is the first position and the whole count is 1.
 unfoldable pub runOf : Book → Block → ℕ → Float
@@ -54,22 +40,6 @@ runOf book b i =
     cond (eqb (inputAfter b i) 0) (zerosFrom book b (i - start) start 1 none) none
 
 -- ---- What level q costs at window position i, by what stands around it
-unfoldable pub prevOf : Block → ℕ → ℕ → ℕ → ℕ
-prevOf b i front count = cond (eqb i 0) (firstPrev b count) front
-
--- the token's price, and with a nonzero level the run's; nothing where no nonzero level remains
-unfoldable pub bitsOf : Book → Block → ℕ → ℕ → ℕ → Float → ℤ → Float
-bitsOf book b i remaining prev run q =
-    let token = tokenPrice book b remaining (covered b + i) prev q in
-    cond (eqb remaining 0) none (cond (eqb (nz q) 0) token (add binary32 token run))
-
--- (distortion + rate * bits) + what the count costs
-unfoldable pub costOf : Book → Block → ℕ → ℕ → ℕ → ℕ → Float → ℤ → Float
-costOf book b i later others front run q =
-    let count = others + nz q in
-    let bits = bitsOf book b i (later + nz q) (prevOf b i front count) run q in
-    add binary32 (add binary32 (distortion b i q) (mul binary32 (rate b i q) bits)) (countCost book b count)
-
 unfoldable pub greedyCost : Book → Block → ℕ → ℤ → Float
 greedyCost book b i = costOf book b i (inputAfter b i) (othersOf b i) (frontOf b i) (runOf book b i)
 

@@ -1,18 +1,16 @@
 -- What the parts of the search go by: lists that can be read at each window position up to one, and the counts that are kept on the way.
 use Prim.Native.Nat.{ℕ, _+_, _-_, _*_, _≤_, _<_}
 use mathlib.Core.Path.{_≡_}
-use mathlib.Core.Bool.{cond}
 use mathlib.Core.List.{List}
 use lib.IntN.{ℤ}
-use lib.ListN.{length, getD}
+use lib.ListN.{length}
 use lib.Dec.{T}
-use lib.Ieee.{Float, lt}
+use lib.Ieee.{Float}
 use Rattle.block.specs.Block.{idealAt, nonzerosAmong}
 use Rattle.candidates.specs.Candidates.{isCurrent}
 use Rattle.candidates.specs.Nearest.{isIdeal}
 use Rattle.scan.specs.Scan.{Perm, levelAt}
 use Rattle.steps.specs.declared.reading.Plan.{Plan}
-use Rattle.greedy.specs.declared.cost.Best.{Best}
 
 -- a plan's window lies within its block
 pub record Fitting (p : Plan) : Type 0 where
@@ -33,15 +31,3 @@ pub record Ready (p : Plan) (scan : List ℕ) (source inverse : List Float) (lev
 -- the nonzero levels from scan position k on
 abbrev pub countFrom : List ℕ → List ℤ → ℕ → ℕ → ℕ
 countFrom scan levels c k = nonzerosAmong scan levels k (64 * c - k)
-
--- a cost that is below the least so far takes its place
-unfoldable pub considered : Best → Float → ℤ → Best
-considered l x q = cond (lt x (l .cost)) (record { cost = x; level = q }) l
-
--- the levels at scan positions c to c + i - 1 can be read, and lie within ±32,767
-pub record Windowed (c i : ℕ) (scan : List ℕ) (levels : List ℤ) : Type 0 where
-  pub some : 1 ≤ c
-  pub most : c + i ≤ 65536
-  pub long : c + i ≤ length scan
-  pub within : (k : ℕ) → k < length scan → getD scan k 0 < length levels
-  pub level : (k : ℕ) → c ≤ k → k < c + i → T (isCurrent (levelAt scan levels k))

@@ -1,7 +1,5 @@
 // The greedy search: one pass over the window, from the last position to the first, that takes each position's cheapest candidate.
-pub mod cost;
 pub mod pass;
-pub mod run;
 
 use bias::DequantBias;
 use block::Answer;

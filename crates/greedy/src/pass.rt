@@ -1,7 +1,7 @@
 // The pass over the window, and the counts that it keeps.
-use crate::cost;
-use crate::cost::Around;
-use crate::run;
+use greedy_cost::cost;
+use greedy_cost::cost::Around;
+use greedy_cost::run;
 use steps::reading::Plan;
 ghost use mathlib.Core.Path.{_≡_};
 ghost use mathlib.Core.Bool.{_&&_, _||_};
@@ -12,6 +12,7 @@ ghost use Rattle.bias.specs.Level.{isLevel};
 ghost use Rattle.block.specs.Band.{inputAfter};
 ghost use Rattle.block.specs.Block.{Block, covered as coveredBy};
 ghost use Rattle.candidates.specs.Candidates.{isCurrent};
+ghost use Rattle.greedy_cost.specs.Run.{Windowed};
 ghost use Rattle.least_cost.specs.Position.{nz};
 ghost use Rattle.prices.specs.Book.{bookOf};
 ghost use Rattle.prices.specs.Checks.{bookRefusal};
@@ -19,7 +20,7 @@ ghost use Rattle.scan.specs.Scan.{Perm, levelAt};
 ghost use Rattle.steps.specs.Plan.{Planned, Coded, Lists};
 ghost use Rattle.weights.specs.Window.{windowOf};
 ghost use Rattle.greedy.specs.Greedy.{frontOf, runOf, chosen, settledAt, greedyLevels};
-ghost use Rattle.greedy.specs.Reading.{Fitting, Ready, Windowed, countFrom};
+ghost use Rattle.greedy.specs.Reading.{Fitting, Ready, countFrom};
 
 // The nonzero levels behind the position, and those of the whole block, from scan position c on.
 pub struct Counts {

@@ -1,8 +1,8 @@
-use Rattle.greedy.proofs.Costing.{prev-few, prev-many, prev-front}
+use Rattle.greedy_cost.proofs.Costing.{prev-few, prev-many, prev-front}
 use lib.Dec.{lit≤}
 use borrow.Author.Needs.{needs}
-use Rattle.greedy.proofs.cost.prev_at.Statement.{statement}
-use Rattle.greedy.proofs.cost.prev_at.Tie as tie
+use Rattle.greedy_cost.proofs.cost.prev_at.Statement.{statement}
+use Rattle.greedy_cost.proofs.cost.prev_at.Tie as tie
 
 mul-if2 : tie.Need-mul-if2
 mul-if2 c = search needs

@@ -6,11 +6,10 @@ ghost use Rattle.block.specs.Block.{Block};
 ghost use Rattle.prices.specs.Book.{bookOf};
 ghost use Rattle.prices.specs.Checks.{bookRefusal};
 ghost use Rattle.steps.specs.Plan.{Planned, Coded};
-ghost use Rattle.greedy.specs.Greedy.{none, runStart, zerosFrom};
-ghost use Rattle.greedy.specs.Reading.{Windowed};
+ghost use Rattle.greedy_cost.specs.Run.{none, runStart, zerosFrom, Windowed};
 
 // Where the zeros begin that stand right in front of window position i.
-pub(crate) fn run_start(scan: &[u32], levels: &[i32], covered: usize, i: usize) -> usize
+pub fn run_start(scan: &[u32], levels: &[i32], covered: usize, i: usize) -> usize
     requires { ⌜ Windowed covered i (now scan) (now levels) ⌝ }
     ensures { λ r. ⌜ (r ≡ runStart (now (scan .entry)) (now (levels .entry)) covered i) × (r ≤ i) ⌝ }
 {
@@ -26,7 +25,7 @@ pub(crate) fn run_start(scan: &[u32], levels: &[i32], covered: usize, i: usize) 
 
 // The prices of their tokens, summed front to back. The first has `prev` 1: a nonzero level stands before it, or it is the first
 // position and the whole count is 1.
-pub(crate) fn zeros(
+pub fn zeros(
     clusters: u32,
     map: &[u8],
     configs: &[u8],

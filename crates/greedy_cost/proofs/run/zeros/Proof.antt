@@ -1,5 +1,5 @@
-use Rattle.greedy.proofs.Runs.{zeros-next, zeros-last}
-use Rattle.greedy.specs.Greedy.{none, zerosFrom}
+use Rattle.greedy_cost.proofs.Runs.{zeros-next, zeros-last}
+use Rattle.greedy_cost.specs.Run.{none, zerosFrom}
 use Rattle.ac_context.proofs.Bounds.{covered-most}
 use Rattle.block.specs.Block.{Block}
 use Rattle.prices.specs.Book.{bookOf}
@@ -11,8 +11,8 @@ use mathlib.Core.Path.{_≡_, sym, refl, _∙_}
 use native.Mathlib.Nat.{le-refl}
 use native.Mathlib.Omega.{arith}
 use borrow.Author.Needs.{needs}
-use Rattle.greedy.proofs.run.zeros.Statement.{statement}
-use Rattle.greedy.proofs.run.zeros.Tie as tie
+use Rattle.greedy_cost.proofs.run.zeros.Statement.{statement}
+use Rattle.greedy_cost.proofs.run.zeros.Tie as tie
 
 abbrev Inv-loop : tie.InvT-loop
 Inv-loop clusters map configs symbols ready plan start end sum₀ prev₀ j₀ sum prev j =

@@ -1,7 +1,7 @@
 use mir.Syntax.{w32}
 use mir.Val.{toZ}
-use Rattle.greedy.proofs.Costing.{listed-length, usable-level, usable-listed, listed-below, considered-level, holder-next, holder-done}
-use Rattle.greedy.specs.Greedy.{costOf}
+use Rattle.greedy_cost.proofs.Costing.{listed-length, usable-level, usable-listed, listed-below, considered-level, holder-next, holder-done}
+use Rattle.greedy_cost.specs.Cost.{costOf}
 use Rattle.bias.specs.Level.{isLevel}
 use Rattle.block.specs.Block.{Block}
 use Rattle.candidates.specs.Candidates.{inArray}
@@ -18,8 +18,8 @@ use mathlib.Core.Path.{_≡_, sym, _∙_}
 use native.Mathlib.Omega.{arith}
 use Prim.Native.Nat.{_≤_, _-_}
 use borrow.Author.Needs.{needs}
-use Rattle.greedy.proofs.cost.cheapest.Statement.{statement}
-use Rattle.greedy.proofs.cost.cheapest.Tie as tie
+use Rattle.greedy_cost.proofs.cost.cheapest.Statement.{statement}
+use Rattle.greedy_cost.proofs.cost.cheapest.Tie as tie
 
 abbrev Inv-loop : tie.InvT-loop
 Inv-loop clusters map configs symbols ready plan place levels count i around current best₀ j₀ best j =

@@ -1,5 +1,5 @@
-use Rattle.greedy.proofs.Runs.{start-first, start-here, start-more}
-use Rattle.greedy.specs.Greedy.{runStart}
+use Rattle.greedy_cost.proofs.Runs.{start-first, start-here, start-more}
+use Rattle.greedy_cost.specs.Run.{runStart}
 use Rattle.least_cost.proofs.Trial.{nz-le}
 use Rattle.least_cost.specs.Position.{nz}
 use Rattle.scan.specs.Scan.{levelAt}
@@ -9,8 +9,8 @@ use mathlib.Core.Path.{_≡_, ap, sym, refl, _∙_}
 use native.Mathlib.Nat.{le-refl}
 use native.Mathlib.Omega.{arith}
 use borrow.Author.Needs.{needs}
-use Rattle.greedy.proofs.run.run_start.Statement.{statement}
-use Rattle.greedy.proofs.run.run_start.Tie as tie
+use Rattle.greedy_cost.proofs.run.run_start.Statement.{statement}
+use Rattle.greedy_cost.proofs.run.run_start.Tie as tie
 
 abbrev Inv-loop : tie.InvT-loop
 Inv-loop scan levels covered i start₀ start =

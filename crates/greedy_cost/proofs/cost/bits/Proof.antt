@@ -1,12 +1,12 @@
-use Rattle.greedy.proofs.Costing.{bits-zero, bits-nonzero}
-use Rattle.greedy.specs.Greedy.{bitsOf}
+use Rattle.greedy_cost.proofs.Costing.{bits-zero, bits-nonzero}
+use Rattle.greedy_cost.specs.Cost.{bitsOf}
 use Rattle.ac_context.proofs.Bounds.{covered-most}
 use Rattle.steps.proofs.Zero.{level-back, zero-nz, other-nz}
 use lib.Ieee.{ofBits}
 use native.Mathlib.Omega.{arith}
 use borrow.Author.Tests.{eq-eqb}
-use Rattle.greedy.proofs.cost.bits.Statement.{statement}
-use Rattle.greedy.proofs.cost.bits.Tie as tie
+use Rattle.greedy_cost.proofs.cost.bits.Statement.{statement}
+use Rattle.greedy_cost.proofs.cost.bits.Tie as tie
 
 returns : tie.Need-returns
 unfolding bitsOf ofBits

@@ -1,12 +1,12 @@
-use Rattle.greedy.proofs.Costing.{cost-is}
+use Rattle.greedy_cost.proofs.Costing.{cost-is}
 use Rattle.ac_context.proofs.Bounds.{covered-most}
 use Rattle.least_cost.proofs.Trial.{nz-le}
 use Rattle.steps.proofs.Zero.{level-back}
 use Prim.Native.Nat.{_≤_}
 use native.Mathlib.Omega.{arith}
 use borrow.Author.Needs.{needs}
-use Rattle.greedy.proofs.cost.candidate_cost.Statement.{statement}
-use Rattle.greedy.proofs.cost.candidate_cost.Tie as tie
+use Rattle.greedy_cost.proofs.cost.candidate_cost.Statement.{statement}
+use Rattle.greedy_cost.proofs.cost.candidate_cost.Tie as tie
 
 nonzero-requires : tie.Need-nonzero-requires
 nonzero-requires c κs = search needs

@@ -13,7 +13,7 @@ use Rattle.prices.specs.Book.{Book}
 use Rattle.scan.specs.Scan.{levelAt}
 use Rattle.steps.specs.Plan.{Planned}
 use Rattle.steps.specs.declared.reading.Plan.{Plan}
-use Rattle.greedy.specs.Greedy.{runStart, zerosFrom}
+use Rattle.greedy_cost.specs.Run.{runStart, zerosFrom}
 
 module _ (scan : List ℕ) (levels : List ℤ) (c : ℕ) where
   pub start-first : runStart scan levels c 0 ≡ 0

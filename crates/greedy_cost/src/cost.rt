@@ -16,8 +16,7 @@ ghost use Rattle.prices.specs.Book.{bookOf};
 ghost use Rattle.prices.specs.Checks.{bookRefusal};
 ghost use Rattle.steps.specs.Place.{placeOf};
 ghost use Rattle.steps.specs.Plan.{Planned, Coded, Usable, listed};
-ghost use Rattle.greedy.specs.Greedy.{prevOf, bitsOf, costOf};
-ghost use Rattle.greedy.specs.Reading.{considered};
+ghost use Rattle.greedy_cost.specs.Cost.{prevOf, bitsOf, costOf, considered};
 
 // The cheapest candidate so far.
 pub struct Best {
@@ -144,7 +143,7 @@ fn candidate_cost(
 }
 
 // The first of the cheapest candidates; the current level where no cost is finite.
-pub(crate) fn cheapest(
+pub fn cheapest(
     clusters: u32,
     map: &[u8],
     configs: &[u8],

@@ -26,9 +26,8 @@ use Rattle.steps.specs.Plan.{Planned, Usable, listed}
 use Rattle.steps.specs.declared.reading.Plan.{Plan}
 use Rattle.steps.proofs.Local.{rate-same}
 use Rattle.steps.proofs.Zero.{level-back}
-use Rattle.greedy.specs.declared.cost.Best.{Best}
-use Rattle.greedy.specs.Greedy.{prevOf, bitsOf, costOf}
-use Rattle.greedy.specs.Reading.{considered}
+use Rattle.greedy_cost.specs.declared.cost.Best.{Best}
+use Rattle.greedy_cost.specs.Cost.{prevOf, bitsOf, costOf, considered}
 
 -- ---- `prev`
 module _ (b : Block) (c i front count : ℕ) (e : c ≡ covered b) where

@@ -1,8 +1,8 @@
 use mir.Syntax.{w32}
 use mir.ValLaws.{toZ-ofZ}
-use Rattle.greedy.specs.Reading.{considered}
-use Rattle.greedy.proofs.cost.Best.consider.Statement.{statement}
-use Rattle.greedy.proofs.cost.Best.consider.Tie as tie
+use Rattle.greedy_cost.specs.Cost.{considered}
+use Rattle.greedy_cost.proofs.cost.Best.consider.Statement.{statement}
+use Rattle.greedy_cost.proofs.cost.Best.consider.Tie as tie
 
 returns : tie.Need-returns
 unfolding considered
