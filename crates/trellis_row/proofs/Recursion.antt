@@ -19,8 +19,8 @@ use Rattle.least_cost.proofs.First.{least-cost}
 use Rattle.least_cost.proofs.Nonzero.{least-trial, holder-trial, step-zero, least-nonzeros, holder-nonzeros, no-nonzeros, nonzero-allowed}
 use Rattle.least_cost.proofs.Step.{step-barred}
 use Rattle.least_cost.proofs.Trial.{nonzeros-listed, nonzeros-count}
-use Rattle.trellis_row.specs.Chosen.{with, nonzeroCost, zeroCost, stateCost, stateLevel}
-use Rattle.trellis_row.proofs.Choosing.{zero-listed}
+use Rattle.trellis_choice.specs.Chosen.{with, nonzeroCost, zeroCost, stateCost, stateLevel}
+use Rattle.trellis_choice.proofs.Choosing.{zero-listed}
 use Rattle.trellis_row.proofs.Rows.{dead-least}
 
 -- where nothing is finite, nothing is held

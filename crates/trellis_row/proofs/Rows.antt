@@ -22,12 +22,12 @@ use Rattle.prices.specs.Book.{Book}
 use Rattle.steps.specs.Place.{contextAt, localIn, localAt}
 use Rattle.steps.specs.declared.Place.{Place}
 use Rattle.candidates.specs.declared.Candidates.{Candidates}
-use Rattle.trellis_row.specs.Locals.{listed, Located}
-use Rattle.trellis_row.specs.Chosen.{with, stateCost, stateLevel, nonzeroCost, zeroCost, ZeroAt, Settled}
+use Rattle.trellis_choice.specs.Locals.{listed, Located}
+use Rattle.trellis_choice.specs.Chosen.{with, stateCost, stateLevel, nonzeroCost, zeroCost, ZeroAt, Settled}
 use Rattle.trellis_row.specs.Row.{tailAt, nonzeroTail, zeroTail, rowCost, rowLevel, EntryIs, RowIs, Elsewhere, Coding, Workable}
-use Rattle.trellis_row.proofs.Choosing.{zero-listed}
-use Rattle.trellis_row.specs.declared.chosen.Chosen.{Chosen}
-use Rattle.trellis_row.specs.declared.locals.Locals.{Locals}
+use Rattle.trellis_choice.proofs.Choosing.{zero-listed}
+use Rattle.trellis_choice.specs.declared.chosen.Chosen.{Chosen}
+use Rattle.trellis_choice.specs.declared.locals.Locals.{Locals}
 use Rattle.trellis_row.specs.declared.row.Span.{Span}
 
 -- ---- two entries more, of a list and of another from `at` on

@@ -24,11 +24,11 @@ use Rattle.least_cost.proofs.Range.{within-bounds}
 use Rattle.prices.specs.Book.{Book}
 use Rattle.steps.specs.Place.{localAt}
 use Rattle.steps.specs.declared.Place.{Place}
-use Rattle.trellis_row.specs.Chosen.{with, nonzeroCost, zeroCost, stateCost, stateLevel}
+use Rattle.trellis_choice.specs.Chosen.{with, nonzeroCost, zeroCost, stateCost, stateLevel}
 use Rattle.trellis_row.specs.Row.{tailAt, nonzeroTail, zeroTail, rowCost, rowLevel, EntryIs, RowIs}
 use Rattle.trellis_row.specs.Table.{RowFor, ChoicesFor}
 use Rattle.trellis_row.specs.declared.row.Span.{Span}
-use Rattle.trellis_row.proofs.Choosing.{zero-listed}
+use Rattle.trellis_choice.proofs.Choosing.{zero-listed}
 use Rattle.trellis_row.proofs.Recursion.{state-best, state-pick}
 
 -- ---- only the listed levels' local costs count

@@ -16,9 +16,9 @@ use Rattle.prices.specs.Book.{Book}
 use Rattle.prices.specs.Checks.{bookRefusal}
 use Rattle.steps.specs.Place.{localAt}
 use Rattle.steps.specs.declared.Place.{Place}
-use Rattle.trellis_row.specs.Locals.{listed, Usable, Located}
-use Rattle.trellis_row.specs.Chosen.{stateCost, stateLevel, ZeroAt}
-use Rattle.trellis_row.specs.declared.locals.Locals.{Locals}
+use Rattle.trellis_choice.specs.Locals.{listed, Usable, Located}
+use Rattle.trellis_choice.specs.Chosen.{stateCost, stateLevel, ZeroAt}
+use Rattle.trellis_choice.specs.declared.locals.Locals.{Locals}
 use Rattle.trellis_row.specs.declared.row.Span.{Span}
 
 -- what follows where r nonzero levels come after a position and `prev` is p: the next row's cost, where r lies in the span that may be read

@@ -1,4 +1,2 @@
 // One position of the trellis: the costs of its states from those of the position after it.
-pub mod chosen;
-pub mod locals;
 pub mod row;

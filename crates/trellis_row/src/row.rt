@@ -1,9 +1,9 @@
 // A row of the trellis: the costs of all states of a position.
-use crate::chosen;
-use crate::chosen::Chosen;
-use crate::locals;
-use crate::locals::Locals;
 use steps::Place;
+use trellis_choice::chosen;
+use trellis_choice::chosen::Chosen;
+use trellis_choice::locals;
+use trellis_choice::locals::Locals;
 ghost use mathlib.Core.Path.{_≡_};
 ghost use mathlib.Core.Bool.{true, false};
 ghost use Prim.Native.Nat.{ℕ, _+_, _-_, _*_, _<_, _≤_};
@@ -17,8 +17,8 @@ ghost use Rattle.costs.specs.Cost.{cost as isCost};
 ghost use Rattle.least_cost.specs.Search.{hasZero};
 ghost use Rattle.prices.specs.Book.{Book, bookOf};
 ghost use Rattle.steps.specs.Place.{contextAt};
-ghost use Rattle.trellis_row.specs.Locals.{listed, Usable, Located};
-ghost use Rattle.trellis_row.specs.Chosen.{ZeroAt, Settled};
+ghost use Rattle.trellis_choice.specs.Locals.{listed, Usable, Located};
+ghost use Rattle.trellis_choice.specs.Chosen.{ZeroAt, Settled};
 ghost use Rattle.trellis_row.specs.Row.{tailAt, nonzeroTail, RowIs, Elsewhere, Coding, Workable, Ready};
 
 // The counts that may be read of the next row: from `from` up to `upto`, the row's first count being `base`.

@@ -18,14 +18,14 @@ use Rattle.costs.proofs.Order.{infinite, lt-inf, inf-lt}
 use Rattle.costs.proofs.Sum.{add-cost, add-inf, add-zero}
 use Rattle.least_cost.specs.Position.{nz}
 use Rattle.least_cost.specs.Search.{least, holder, nonzeros, hasZero}
-use Rattle.trellis_row.proofs.Noting.{zero-is}
+use Rattle.trellis_choice.proofs.Noting.{zero-is}
 use Rattle.prices.specs.Book.{Book}
 use Rattle.prices.specs.declared.Pair.{Pair}
 use Rattle.block.specs.Cost.{distortionOf}
 use Rattle.steps.specs.Place.{distortionAt, contextAt, ratedIn, localIn, localAt}
 use Rattle.steps.specs.Plan.{listed, Usable}
 use Rattle.steps.specs.declared.Place.{Place}
-use Rattle.trellis_row.specs.Chosen.{with, stateCost, stateLevel, nonzeroCost, zeroCost, Settled}
+use Rattle.trellis_choice.specs.Chosen.{with, stateCost, stateLevel, nonzeroCost, zeroCost, Settled}
 use Rattle.trellis_row.specs.Row.{tailAt, nonzeroTail, zeroTail, Workable}
 use Rattle.trellis_row.specs.declared.row.Span.{Span}
 use Rattle.trellis_row.specs.declared.row.States.{States}

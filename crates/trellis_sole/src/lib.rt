@@ -1,7 +1,7 @@
 // A row of the trellis where the position has one candidate: each count has one way on, so nothing is chosen. `fill_row` takes any position.
 use prices::Pair;
 use steps::Place;
-use trellis_row::chosen::Chosen;
+use trellis_choice::chosen::Chosen;
 use trellis_row::row;
 use trellis_row::row::Span;
 use trellis_row::row::States;
@@ -14,7 +14,7 @@ ghost use Rattle.bias.specs.Level.{isLevel};
 ghost use Rattle.candidates.specs.Candidates.{inArray};
 ghost use Rattle.prices.specs.Book.{Book, bookOf};
 ghost use Rattle.prices.specs.Checks.{bookRefusal};
-ghost use Rattle.trellis_row.specs.Locals.{listed};
+ghost use Rattle.trellis_choice.specs.Locals.{listed};
 ghost use Rattle.trellis_row.specs.Row.{RowIs, Elsewhere, Workable};
 ghost use Rattle.trellis_sole.specs.Sole.{soleTail, soleStates, TokenIs, SoleReady};
 

@@ -3,7 +3,7 @@ use Rattle.trellis_row.specs.Row.{Ready}
 use Rattle.ac_context.proofs.Bounds.{covered-most}
 use Rattle.candidates.specs.Candidates.{inArray}
 use Rattle.steps.proofs.Listed.{listed-few}
-use Rattle.trellis_row.specs.Locals.{listed}
+use Rattle.trellis_choice.specs.Locals.{listed}
 use Rattle.prices.specs.Book.{bookOf}
 use lib.ListN.{length, length-set}
 use native.Mathlib.Nat.{le-refl}

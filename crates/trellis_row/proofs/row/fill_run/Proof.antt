@@ -1,5 +1,5 @@
 use Rattle.trellis_row.proofs.Rows.{Ran, ran-none, ran-more}
-use Rattle.trellis_row.specs.Locals.{listed}
+use Rattle.trellis_choice.specs.Locals.{listed}
 use Rattle.trellis_row.specs.Row.{Ready}
 use Rattle.candidates.specs.Candidates.{inArray}
 use native.Mathlib.Omega.{arith}

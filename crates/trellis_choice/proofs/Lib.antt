@@ -1,0 +1,4 @@
+pub mod Scanning
+pub mod Noting
+pub mod Tying
+pub mod Choosing
