@@ -1,6 +1,5 @@
 // The levels that a search may pick for one coefficient.
 ghost use mathlib.Core.Path.{_≡_};
-ghost use mathlib.Core.Bool.{_&&_};
 ghost use Prim.Native.Nat.{_<_};
 ghost use lib.Dec.{T};
 ghost use lib.IntN.{pos};

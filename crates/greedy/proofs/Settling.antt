@@ -1,7 +1,7 @@
 -- The pass over the whole window, and what the call answers. Assumes nothing.
 use mathlib.Core.Path.{_≡_, refl, ap, _∙_}
-use mathlib.Core.Bool.{Bool, true, false, cond, _&&_}
-use mathlib.Core.List.{List, []}
+use mathlib.Core.Bool.{true}
+use mathlib.Core.List.{List}
 use Prim.Native.Nat.{ℕ, suc, _+_, _-_, _*_, _≤_, _<_, min}
 use native.Mathlib.Omega.{arith}
 use native.Mathlib.Nat.{le-refl, le-trans, min-le-left, min-le-right}
@@ -10,15 +10,11 @@ use lib.IntN.{ℤ}
 use lib.ListN.{length}
 use lib.Ieee.{Float}
 use borrow.Author.Tests.{eq-eqb, ne-eqb}
-use Rattle.bias.specs.declared.DequantBias.{DequantBias}
-use Rattle.block.specs.Block.{Block, blockOf, covered, contextOf, inputAt, inputRemaining, ideal, nonzerosAmong, withLevels}
-use Rattle.ac_context.specs.Contexts.{isPowerBelow}
-use Rattle.block.specs.Checks.{check7, blockRefusal, searchRefusal}
+use Rattle.block.specs.Block.{Block, covered, inputAt, inputRemaining, ideal, nonzerosAmong, withLevels}
+use Rattle.block.specs.Checks.{blockRefusal, searchRefusal}
 use Rattle.block.specs.declared.Answer.the-variants.{Count, Refused}
-use Rattle.block.specs.declared.Shape.{Shape}
 use Rattle.block_checks.specs.Passed.{Passed}
 use Rattle.block_checks.proofs.Laws.{refused-room}
-use Rattle.laws.proofs.Tests.{and-left, and-right}
 use Rattle.prices.specs.Book.{Book}
 use Rattle.prices.specs.Checks.{bookRefusal}
 use Rattle.scan.specs.Scan.{Perm}
@@ -28,7 +24,6 @@ use Rattle.steps.proofs.Plans.{planned-lists}
 use Rattle.steps.specs.Plan.{Planned, Lists}
 use Rattle.steps.specs.declared.reading.Plan.{Plan}
 use Rattle.weights.specs.Window.{windowOf, baseLen}
-use Rattle.weights.specs.declared.Settings.{Settings}
 use Rattle.weights.specs.declared.Window.{Window}
 use Rattle.greedy.specs.declared.pass.Counts.{Counts}
 use Rattle.greedy.specs.Greedy.{settledAt, settledFrom, greedyLevels, greedyOutcome}

@@ -1,16 +1,12 @@
 -- What is read at a window position is what the block's definitions give. Assumes nothing.
-use mathlib.Core.Path.{_≡_, refl, sym, ap, _∙_}
+use mathlib.Core.Path.{_≡_, refl, ap, _∙_}
 use mathlib.Core.Bool.{Bool, cond}
 use mathlib.Core.List.{List, [], _∷_, _++_}
-use Prim.Native.Nat.{ℕ, _+_, _≤_, _<_}
-use native.Mathlib.Omega.{arith}
+use Prim.Native.Nat.{ℕ, _+_}
 use lib.Dec.{T, eqb, ltb, le→leb}
-use lib.IntN.{ℤ, pos}
-use lib.ListN.{length, getD, take}
+use lib.IntN.{ℤ}
+use lib.ListN.{length, take}
 use lib.Ieee.{Float}
-use mir.Syntax.{w32}
-use mir.Val.{ofZ, toZ}
-use Rattle.bias.specs.Level.{isLevel}
 use Rattle.block.specs.Block.{Block, covered, inputAt, ideal, idealAt, candidatesAt}
 use Rattle.candidates.specs.Candidates.{candidatesOf, filled, filler, isCurrent}
 use Rattle.candidates.specs.Nearest.{isIdeal}
@@ -19,13 +15,11 @@ use Rattle.candidates.proofs.Laws.{candidates-listed, inside-at, filled-at, fil
 use Rattle.least_cost.specs.Position.{nz}
 use Rattle.scan.specs.Scan.{levelAt}
 use Rattle.weights.specs.Settings.{weightAt, scaledWeight}
-use Rattle.weights.specs.Window.{windowOf}
 use Rattle.weights.specs.declared.Window.{Window}
 use Rattle.steps.specs.Place.{placeOf, nonzeroRate}
 use Rattle.steps.specs.Plan.{Planned, Lists, Offered, Usable, listed}
 use Rattle.steps.specs.declared.Place.{Place}
 use Rattle.steps.specs.declared.reading.Plan.{Plan}
-use Rattle.steps.specs.declared.reading.Offer.{Offer}
 
 -- the candidates as the leaf hands them over
 pub filled-usable : (x : Float) (q : ℤ) (restore : Bool) (c : Candidates) → T (isIdeal x) → T (isCurrent q) → c ≡ filled (filler q restore) (candidatesOf x q restore) → Usable c

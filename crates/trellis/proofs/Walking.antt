@@ -14,8 +14,8 @@ use lib.ListN.{length, getD, drop, set, length-take}
 use lib.Seq.{getD-take}
 use lib.Ieee.{Float, inf}
 use lib.Ieee.Scale.{finite}
-use Rattle.block.specs.Block.{Block, blockOf, covered, contextOf, inputAt, inputRemaining, ideal, candidatesAt}
-use Rattle.block.specs.Band.{positionAt, pastWindow, halfWidth}
+use Rattle.block.specs.Block.{Block, blockOf, covered, inputAt, inputRemaining, ideal, candidatesAt}
+use Rattle.block.specs.Band.{positionAt, pastWindow}
 use Rattle.block.specs.Cost.{firstPrev}
 use Rattle.block_checks.specs.Passed.{Passed}
 use Rattle.candidates.specs.Candidates.{candidatesOf, inArray}
@@ -25,7 +25,6 @@ use Rattle.least_cost.proofs.Best.{AllPriced, best-costs, picked, rest-priced}
 use Rattle.least_cost.proofs.First.{found-mem}
 use Rattle.least_cost.proofs.Step.{step-allowed, step-rest, allowed-among}
 use Rattle.least_cost.proofs.Trial.{trial-listed, nz-le}
-use Rattle.prices.specs.Book.{Book}
 use Rattle.scan.specs.Scan.{Perm, levelAt, put}
 use Rattle.scan.proofs.Through.{put-more, put-after, put-length}
 use Rattle.steps.proofs.Plans.{planned-lists}
@@ -34,7 +33,7 @@ use Rattle.steps.specs.Plan.{Planned, Lists, Readable, Offered, Usable, listed}
 use Rattle.steps.specs.declared.reading.Plan.{Plan}
 use Rattle.steps.specs.declared.reading.Offer.{Offer}
 use Rattle.weights.specs.Window.{windowOf}
-use Rattle.trellis_table.specs.Rows.{windowLength, tail, position, positions, leastCount, Checked, ChosenFrom}
+use Rattle.trellis_table.specs.Rows.{windowLength, tail, position, positions, leastCount}
 use Rattle.trellis.specs.Walk.{Walkable, walked}
 use Rattle.trellis_table.specs.declared.position.Counts.{Counts}
 use Rattle.trellis_table.proofs.Steps.{passed-block, window-is, readable-here, positions-cons, priced-cons, within-counts, narrow, remaining-step, remaining-few, past-few, level-current}

@@ -1,5 +1,5 @@
 -- What the whole search hands to its steps. Assumes nothing.
-use mathlib.Core.Path.{_≡_, refl, sym, ap, ap₂, _∙_, subst, subst⁻¹}
+use mathlib.Core.Path.{_≡_, sym, ap, ap₂, _∙_, subst, subst⁻¹}
 use mathlib.Core.Bool.{Bool, true, false, cond}
 use mathlib.Core.List.{List}
 use Prim.Native.Nat.{ℕ, _+_, _-_, _*_, _≤_, _<_}
@@ -23,7 +23,7 @@ use Rattle.prices.specs.Book.{Book}
 use Rattle.scan.specs.Scan.{put}
 use Rattle.block.specs.declared.Answer.the-variants.{Cost, Refused}
 use Rattle.scan.specs.Scan.{Perm}
-use Rattle.steps.specs.Plan.{Planned, Whole}
+use Rattle.steps.specs.Plan.{Whole}
 use Rattle.steps.specs.declared.reading.Plan.{Plan}
 use Rattle.weights.specs.Window.{windowOf}
 use Rattle.trellis_table.specs.Rows.{windowLength, problem, tail, positions, Checked, RowAt, Rowed}

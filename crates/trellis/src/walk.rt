@@ -3,7 +3,7 @@ use steps::reading::Plan;
 use trellis_table::position;
 ghost use mathlib.Core.Path.{_≡_};
 ghost use Prim.Native.Nat.{_+_, _-_, _*_, _≤_, _<_};
-ghost use lib.ListN.{length, getD, set};
+ghost use lib.ListN.{length, getD};
 ghost use Rattle.block.specs.Block.{covered};
 ghost use Rattle.scan.specs.Scan.{put};
 ghost use Rattle.trellis_table.specs.Rows.{windowLength};

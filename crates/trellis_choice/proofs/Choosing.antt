@@ -2,7 +2,7 @@
 use mathlib.Core.Path.{_≡_, refl, sym, ap, _∙_, subst, subst⁻¹}
 use mathlib.Core.Bool.{Bool, true, false, cond, not, _||_, true≢false}
 use mathlib.Core.List.{List, [], _∷_, List·Memᴰ as Mem, List·Memᴰ·head as here, List·Memᴰ·tail as there}
-use Prim.Native.Nat.{ℕ, zero, suc, _+_, _≤_, _<_}
+use Prim.Native.Nat.{ℕ, zero, _<_}
 use native.Mathlib.Omega.{arith}
 use lib.IntN.{ℤ, pos}
 use lib.Dec.{T, eqb, ltb}
@@ -14,12 +14,12 @@ use Rattle.costs.specs.Cost.{cost}
 use Rattle.costs.proofs.Order.{inf-lt, lt-inf, infinite}
 use Rattle.costs.proofs.Sum.{add-inf, add-cost}
 use Rattle.least_cost.specs.Position.{nz}
-use Rattle.least_cost.specs.Search.{least, holder, nonzeros, hasZero, trial}
+use Rattle.least_cost.specs.Search.{least, holder, nonzeros, hasZero}
 use Rattle.least_cost.specs.Factored.{runnerUp, firstEqual}
 use Rattle.least_cost.proofs.First.{finite-found, found-mem, least-cost}
 use Rattle.least_cost.proofs.Trial.{nonzeros-count, nonzeros-listed}
 use Rattle.least_cost.proofs.Factored.{least-sum, holder-equal, holder-untied}
-use Rattle.trellis_choice.specs.Locals.{Each, FirstLeast}
+use Rattle.trellis_choice.specs.Locals.{FirstLeast}
 use Rattle.trellis_choice.specs.Chosen.{with, nonzeroCost, zeroCost, stateCost, stateLevel, Known, ZeroAt, Settled}
 use Rattle.trellis_choice.proofs.Noting.{zero-is}
 use Rattle.trellis_choice.specs.declared.locals.Least.{Least}

@@ -11,7 +11,7 @@ use lib.Ieee.{Float, nan}
 use borrow.Author.Tests.{eqb-true, eqb-false}
 use Rattle.least_cost.specs.Position.{nz}
 use Rattle.least_cost.specs.Search.{hasZero}
-use Rattle.trellis_choice.specs.Locals.{nothing, considered, noted, Empty, FirstLeast, Each, Located}
+use Rattle.trellis_choice.specs.Locals.{nothing, considered, noted, Empty, Located}
 use Rattle.trellis_choice.specs.declared.locals.Least.{Least}
 use Rattle.trellis_choice.specs.declared.locals.Locals.{Locals}
 use Rattle.steps.proofs.Arrays.{Front, front-none, front-more}

@@ -1,17 +1,16 @@
 -- The loop that looks for the first least among the nonzero candidates: what holds after j of them. Assumes nothing.
-use mathlib.Core.Path.{_≡_, refl, sym, ap, _∙_, subst}
-use mathlib.Core.Bool.{Bool, true, false, cond, _||_}
-use mathlib.Core.List.{List, [], _∷_}
-use Prim.Native.Nat.{ℕ, zero, suc, _+_, _≤_, _<_}
+use mathlib.Core.Path.{_≡_, refl, sym, ap, _∙_}
+use mathlib.Core.Bool.{Bool, true, false, cond}
+use mathlib.Core.List.{List, _∷_}
+use Prim.Native.Nat.{ℕ, _+_, _≤_, _<_}
 use native.Mathlib.Omega.{arith}
 use native.Mathlib.Numerals.{add-one}
 use lib.IntN.{ℤ, pos}
-use lib.Dec.{eqb, lit≤}
-use lib.ListN.{length, getD, take, drop, List·getD-eq-default}
+use lib.ListN.{length, getD, drop, List·getD-eq-default}
 use lib.Seq.{drop-cons, drop-length}
 use lib.Ieee.{Float, inf, lt}
 use Rattle.least_cost.specs.Position.{nz}
-use Rattle.least_cost.specs.Search.{least, holder, nonzeros, hasZero}
+use Rattle.least_cost.specs.Search.{least, holder, nonzeros}
 use Rattle.least_cost.specs.Factored.{runnerUp}
 use Rattle.trellis_choice.specs.Locals.{nothing, considered, FirstLeast}
 use Rattle.trellis_choice.specs.declared.locals.Least.{Least}

@@ -1,13 +1,12 @@
 -- What is worked out once for all counts that share a context: the local cost of each candidate, and the first least among the nonzero ones.
-use Prim.Native.Nat.{ℕ, _+_, _≤_, _<_}
+use Prim.Native.Nat.{ℕ}
 use mathlib.Core.Path.{_≡_}
 use mathlib.Core.Bool.{true, false, cond}
 use mathlib.Core.List.{List}
 use lib.IntN.{ℤ, pos}
 use lib.ListN.{getD}
-use lib.Ieee.{Float, nan, inf, lt}
-use lib.Dec.{T, eqb}
-use Rattle.bias.specs.Level.{isLevel}
+use lib.Ieee.{Float, inf, lt}
+use lib.Dec.{eqb}
 pub use Rattle.steps.specs.Plan.{listed, Usable, Each}
 use Rattle.least_cost.specs.Position.{nz}
 use Rattle.least_cost.specs.Search.{least, holder, nonzeros, hasZero}

@@ -1,10 +1,10 @@
 // The level of one state.
 use crate::locals::Least;
 ghost use mathlib.Core.Path.{_≡_};
-ghost use mathlib.Core.Bool.{true, false, cond};
+ghost use mathlib.Core.Bool.{false, cond};
 ghost use Prim.Native.Nat.{_<_};
 ghost use lib.IntN.{ℤ, pos};
-ghost use lib.ListN.{getD, length};
+ghost use lib.ListN.{getD};
 ghost use lib.Dec.{T};
 ghost use mathlib.Core.List.{List·Memᴰ};
 ghost use lib.Ieee.{Float, inf, lt, add, binary32};

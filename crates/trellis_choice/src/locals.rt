@@ -1,9 +1,8 @@
 // Local costs, worked out once for all counts that share a context.
 use steps::Place;
 ghost use mathlib.Core.Path.{_≡_};
-ghost use Prim.Native.Nat.{_+_, _<_, _≤_};
-ghost use lib.ListN.{length, getD};
-ghost use lib.IntN.{pos};
+ghost use Prim.Native.Nat.{_+_, _<_};
+ghost use lib.ListN.{length};
 ghost use Rattle.candidates.specs.Candidates.{inArray};
 ghost use Rattle.prices.specs.Book.{bookOf};
 ghost use Rattle.prices.specs.Checks.{bookRefusal};

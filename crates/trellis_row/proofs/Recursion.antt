@@ -2,18 +2,15 @@
 use mathlib.Core.Path.{_≡_, refl, sym, ap, _∙_, subst, subst⁻¹}
 use mathlib.Core.Bool.{Bool, true, false, cond, not, _&&_}
 use mathlib.Core.List.{List, [], _∷_, List·Memᴰ as Mem, List·Memᴰ·head as here, List·Memᴰ·tail as there}
-use Prim.Native.Nat.{ℕ, _+_, _-_, _*_, _≤_, _<_}
-use native.Mathlib.Omega.{arith}
+use Prim.Native.Nat.{ℕ, _-_}
 use lib.IntN.{ℤ, pos}
 use lib.Dec.{T, leb}
-use lib.Ieee.{Float, nan, inf, lt, add, binary32}
+use lib.Ieee.{Float, inf, lt, add, binary32}
 use lib.Ieee.Scale.{finite}
-use lib.ListN.{getD}
-use borrow.Author.Tests.{leb-true, leb-false, le-leb, lt-leb}
 use Rattle.costs.specs.Cost.{cost}
 use Rattle.costs.proofs.Order.{inf-lt}
 use Rattle.costs.proofs.Sum.{add-inf, add-cost}
-use Rattle.least_cost.specs.Position.{Position, Priced, nz, within, allowed}
+use Rattle.least_cost.specs.Position.{Position, nz, within}
 use Rattle.least_cost.specs.Search.{least, holder, nonzeros, hasZero, trial, step}
 use Rattle.least_cost.proofs.First.{least-cost}
 use Rattle.least_cost.proofs.Nonzero.{least-trial, holder-trial, step-zero, least-nonzeros, holder-nonzeros, no-nonzeros, nonzero-allowed}

@@ -2,19 +2,19 @@
 use mathlib.Core.Path.{_≡_, refl, sym, ap, _∙_, subst, subst⁻¹}
 use mathlib.Core.Bool.{Bool, true, false, cond, not, _&&_}
 use mathlib.Core.List.{List, [], _∷_, List·Memᴰ as Mem, List·Memᴰ·head as here, List·Memᴰ·tail as there}
-use Prim.Native.Nat.{ℕ, zero, suc, _+_, _-_, _*_, _/_, _%_, _≤_, _<_}
+use Prim.Native.Nat.{ℕ, _+_, _-_, _*_, _/_, _%_, _≤_, _<_}
 use native.Mathlib.Omega.{arith}
 use native.Mathlib.Nat.{le-refl}
 use lib.IntN.{ℤ, pos}
 use lib.Dec.{T, eqb, leb, lit≤}
 use lib.ListN.{length, getD, set, length-set}
 use lib.Seq.{getD-set-same, getD-set-other}
-use lib.Ieee.{Float, nan, inf, lt, add, binary32}
+use lib.Ieee.{Float, nan, inf, lt, binary32}
 use lib.Ieee.Scale.{finite}
 use borrow.Author.Tests.{eqb-true, eqb-false, ne-eqb, leb-true}
 use Rattle.ac_context.specs.Contexts.{CountsAlike}
 use Rattle.costs.specs.Cost.{cost}
-use Rattle.costs.proofs.Order.{infinite, lt-inf, inf-lt}
+use Rattle.costs.proofs.Order.{infinite, lt-inf}
 use Rattle.costs.proofs.Sum.{add-inf}
 use Rattle.least_cost.specs.Search.{least, nonzeros, hasZero}
 use Rattle.least_cost.proofs.Trial.{nonzeros-listed}
@@ -22,8 +22,8 @@ use Rattle.prices.specs.Book.{Book}
 use Rattle.steps.specs.Place.{contextAt, localIn, localAt}
 use Rattle.steps.specs.declared.Place.{Place}
 use Rattle.candidates.specs.declared.Candidates.{Candidates}
-use Rattle.trellis_choice.specs.Locals.{listed, Located}
-use Rattle.trellis_choice.specs.Chosen.{with, stateCost, stateLevel, nonzeroCost, zeroCost, ZeroAt, Settled}
+use Rattle.trellis_choice.specs.Locals.{Located}
+use Rattle.trellis_choice.specs.Chosen.{with, stateCost, nonzeroCost, zeroCost, ZeroAt, Settled}
 use Rattle.trellis_row.specs.Row.{tailAt, nonzeroTail, zeroTail, rowCost, rowLevel, EntryIs, RowIs, Elsewhere, Coding, Workable}
 use Rattle.trellis_choice.proofs.Choosing.{zero-listed}
 use Rattle.trellis_choice.specs.declared.chosen.Chosen.{Chosen}

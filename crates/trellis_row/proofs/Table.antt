@@ -1,22 +1,22 @@
 -- A row that was worked out from the row after it stands for one position more. Assumes nothing.
 use mathlib.Core.Path.{_≡_, refl, sym, ap, _∙_, subst, subst⁻¹}
 use mathlib.Core.Bool.{Bool, true, false, cond, not, _&&_, true≢false}
-use mathlib.Core.List.{List, [], _∷_, List·Memᴰ as Mem}
-use Prim.Native.Nat.{ℕ, zero, suc, _+_, _-_, _*_, _/_, _%_, _≤_, _<_, max, min}
+use mathlib.Core.List.{List, _∷_, List·Memᴰ as Mem}
+use Prim.Native.Nat.{ℕ, _+_, _-_, _*_, _/_, _%_, _≤_, _<_}
 use native.Mathlib.Omega.{arith}
-use native.Mathlib.Nat.{le-trans, not-suc-le-zero, le-of-suc-le-suc}
+use native.Mathlib.Nat.{le-trans}
 use lib.IntN.{ℤ, pos}
 use lib.Dec.{T, leb, not-T}
-use lib.ListN.{getD, length}
-use lib.Ieee.{Float, nan, inf, lt, add, binary32}
+use lib.ListN.{getD}
+use lib.Ieee.{Float, nan, inf, add, binary32}
 use lib.Ieee.Scale.{finite}
-use borrow.Author.Tests.{leb-true, leb-false, le-leb, lt-leb}
+use borrow.Author.Tests.{leb-true, leb-false, le-leb}
 use Rattle.costs.specs.Cost.{cost}
 use Rattle.costs.proofs.Order.{infinite}
-use Rattle.least_cost.specs.Position.{Position, Tail, Priced, nz, within, allowed}
-use Rattle.least_cost.specs.Search.{least, holder, nonzeros, hasZero, trial, step, best, pick}
+use Rattle.least_cost.specs.Position.{Position, Tail, nz, within}
+use Rattle.least_cost.specs.Search.{least, nonzeros, hasZero, best, pick}
 use Rattle.least_cost.proofs.First.{least-same, holder-same}
-use Rattle.least_cost.proofs.Step.{Costs, allowed-within}
+use Rattle.least_cost.proofs.Step.{allowed-within}
 use Rattle.least_cost.proofs.Trial.{nonzeros-listed, nz-le}
 use Rattle.least_cost.proofs.Best.{AllPriced, best-costs, rest-priced}
 use Rattle.least_cost.proofs.Row.{Agrees, best-row, pick-row}
@@ -25,7 +25,7 @@ use Rattle.prices.specs.Book.{Book}
 use Rattle.steps.specs.Place.{localAt}
 use Rattle.steps.specs.declared.Place.{Place}
 use Rattle.trellis_choice.specs.Chosen.{with, nonzeroCost, zeroCost, stateCost, stateLevel}
-use Rattle.trellis_row.specs.Row.{tailAt, nonzeroTail, zeroTail, rowCost, rowLevel, EntryIs, RowIs}
+use Rattle.trellis_row.specs.Row.{tailAt, nonzeroTail, zeroTail, rowCost, rowLevel, RowIs}
 use Rattle.trellis_row.specs.Table.{RowFor, ChoicesFor}
 use Rattle.trellis_row.specs.declared.row.Span.{Span}
 use Rattle.trellis_choice.proofs.Choosing.{zero-listed}

@@ -1,7 +1,7 @@
 -- A row: the costs of the states of one position, a pair for `prev` 0 and 1 for each count from the row's first count on.
 use Prim.Native.Nat.{ℕ, _+_, _-_, _*_, _/_, _%_, _≤_, _<_}
 use mathlib.Core.Path.{_≡_}
-use mathlib.Core.Bool.{Bool, true, false, cond, _&&_}
+use mathlib.Core.Bool.{false, cond, _&&_}
 use mathlib.Core.List.{List, List·Memᴰ}
 use lib.IntN.{ℤ, pos}
 use lib.ListN.{getD, length}

@@ -1,11 +1,10 @@
 -- The states of a position with one candidate. Assumes nothing.
 use mathlib.Core.Path.{_≡_, refl, sym, ap, _∙_, subst, subst⁻¹}
 use mathlib.Core.Bool.{Bool, true, false, cond, not, _||_}
-use mathlib.Core.List.{List, [], _∷_, List·Memᴰ as Mem, List·Memᴰ·head as here}
-use Prim.Native.Nat.{ℕ, _+_, _≤_, _<_}
-use native.Mathlib.Nat.{le-refl}
+use mathlib.Core.List.{List, [], _∷_, List·Memᴰ·head as here}
+use Prim.Native.Nat.{ℕ, _≤_, _<_}
 use native.Mathlib.Omega.{arith}
-use borrow.Author.Tests.{eqb-true, eqb-false}
+use borrow.Author.Tests.{eqb-true}
 use lib.IntN.{ℤ, pos}
 use lib.Dec.{T, eqb, lit<}
 use lib.ListN.{length, getD, take}

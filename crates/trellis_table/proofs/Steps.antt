@@ -1,18 +1,16 @@
 -- One position: from the row after it to its own. Assumes nothing.
-use mathlib.Core.Path.{_≡_, refl, sym, ap, _∙_, subst, subst⁻¹}
-use mathlib.Core.Bool.{false}
-use mathlib.Core.List.{List, [], _∷_, List·Memᴰ as Mem}
+use mathlib.Core.Path.{_≡_, ap, _∙_, subst, subst⁻¹}
+use mathlib.Core.List.{List, _∷_, List·Memᴰ as Mem}
 use Prim.Native.Nat.{ℕ, zero, suc, _+_, _-_, _*_, _≤_, _<_, max, min}
 use native.Mathlib.Omega.{arith}
 use native.Mathlib.Nat.{le-trans, le-refl, max-le, min-le-right}
 use native.Mathlib.Numerals.{add-one}
-use lib.IntN.{ℤ, pos}
-use lib.Dec.{T, lit≤}
+use lib.IntN.{ℤ}
+use lib.Dec.{T}
 use lib.ListN.{length, getD}
-use lib.Ieee.{Float, nan, inf, binary32}
+use lib.Ieee.{Float, nan, binary32}
 use lib.Ieee.Scale.{finite}
-use Rattle.ac_context.specs.Contexts.{Covered}
-use Rattle.block.specs.Block.{Block, covered, inputAt, nonzerosAmong, inputRemaining, candidatesAt}
+use Rattle.block.specs.Block.{Block, covered, inputAt, inputRemaining, candidatesAt}
 use Rattle.block.specs.Band.{positionAt, positionsFrom, tailOf, pastWindow, inputAfter, halfWidth}
 use Rattle.block.specs.Cost.{localCost}
 use Rattle.candidates.specs.Candidates.{inArray, isCurrent}
@@ -21,18 +19,17 @@ use Rattle.block_checks.proofs.Laws.{passed}
 use Rattle.block_checks.proofs.Reading.{readable, small-position}
 use Rattle.costs.specs.Cost.{cost}
 use Rattle.costs.proofs.Bound.{capped-cost}
-use Rattle.least_cost.specs.Position.{Position, Tail, nz}
+use Rattle.least_cost.specs.Position.{Position, nz}
 use Rattle.least_cost.specs.Search.{best}
 use Rattle.least_cost.proofs.Best.{AllPriced, best-costs}
 use Rattle.least_cost.proofs.Trial.{nz-le}
-use Rattle.least_cost.proofs.Range.{Reach, Near, best-reach, best-near}
+use Rattle.least_cost.proofs.Range.{best-reach, best-near}
 use Rattle.prices.specs.Book.{Book}
 use Rattle.problem.proofs.Local.{candidates-level, local-capped}
 use Rattle.problem.proofs.Problem.{all-priced, past-most, positions-length, among-most}
 use Rattle.problem.specs.Tokens.{pastLength}
-use Rattle.scan.specs.Scan.{levelAt}
 use Rattle.steps.specs.Place.{placeOf, localAt}
-use Rattle.steps.specs.Plan.{Planned, Coded, Readable, Offered, Usable, listed}
+use Rattle.steps.specs.Plan.{Readable, Offered, Usable, listed}
 use Rattle.steps.specs.declared.Place.{Place}
 use Rattle.steps.specs.declared.reading.Plan.{Plan}
 use Rattle.steps.specs.declared.reading.Offer.{Offer}
@@ -45,9 +42,8 @@ use Rattle.trellis_row.proofs.Rows.{nonzero-tail-cost}
 use Rattle.trellis_row.proofs.Table.{Common, row-for, choices-for}
 use Rattle.weights.specs.Window.{windowOf, baseLen}
 use Rattle.weights.specs.declared.Window.{Window}
-use Rattle.trellis_table.specs.Rows.{windowLength, tail, position, positions, leastCount, Checked, RowAt, ChosenAt, Stepped}
+use Rattle.trellis_table.specs.Rows.{windowLength, tail, position, positions, leastCount, Checked, RowAt, Stepped}
 use Rattle.trellis_table.specs.declared.position.Counts.{Counts}
-use Rattle.trellis_table.specs.declared.position.Step.{Step}
 
 base-small : (c : ℕ) → baseLen c ≤ 1024
 base-small c = omega arith

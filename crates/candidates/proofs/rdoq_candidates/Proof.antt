@@ -1,6 +1,5 @@
 -- `rdoq_candidates` meets its contract. Assumes nothing.
 use mathlib.Core.Path.{sym, ap, _∙_, subst}
-use mathlib.Core.Bool.{Bool}
 use lib.Dec.{T}
 use lib.IntN.{ℤ}
 use Rattle.candidates.specs.Candidates.{isCurrent, filled, filler, candidatesOf}

@@ -1,16 +1,14 @@
-use Rattle.trellis_row.proofs.Rows.{SoFar, so-far-none, so-far-more, workable-less, coding-of}
+use Rattle.trellis_row.proofs.Rows.{SoFar, so-far-none, so-far-more, coding-of}
 use Rattle.trellis_sole.proofs.Sole.{count-first, listed-one, sole-ready}
 use Rattle.ac_context.proofs.Bounds.{covered-most}
 use Rattle.steps.proofs.Listed.{usable-back, usable-level}
-use Rattle.steps.specs.Place.{distortionAt}
-use Rattle.steps.specs.Plan.{listed}
 use Rattle.prices.specs.Book.{bookOf}
 use native.Mathlib.Omega.{arith}
 use mir.Syntax.{w32}
 use mir.Val.{toZ}
 use mathlib.Core.List.{_∷_, []}
-use mathlib.Core.Path.{_≡_, sym, ap, _∙_}
-use Prim.Native.Nat.{ℕ, _+_, _-_, _≤_}
+use mathlib.Core.Path.{_≡_, sym, _∙_}
+use Prim.Native.Nat.{_+_, _-_}
 use borrow.Author.Needs.{needs}
 use Rattle.trellis_sole.proofs.fill_sole.Statement.{statement}
 use Rattle.trellis_sole.proofs.fill_sole.Tie as tie

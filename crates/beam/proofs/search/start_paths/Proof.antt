@@ -1,4 +1,3 @@
-use Prim.Native.Nat.{_≤_}
 use native.Mathlib.Omega.{arith}
 use Rattle.beam.proofs.Starting.{starts}
 use borrow.Author.Needs.{needs}

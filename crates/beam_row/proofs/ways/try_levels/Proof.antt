@@ -9,7 +9,7 @@ use mathlib.Core.Logic.{⊎-elim}
 use mathlib.Core.Path.{_≡_, refl, sym, _∙_, ap}
 use native.Mathlib.Omega.{arith}
 use lib.ListN.{getD, take}
-use Prim.Native.Nat.{_+_, _-_, _≤_}
+use Prim.Native.Nat.{_-_, _≤_}
 use Rattle.beam_row.proofs.Trying.{OneMore, more-tried, more-other, distortion-is, candidates-more, candidates-all}
 use Rattle.beam_row.proofs.Reach.{both-start}
 use Rattle.steps.proofs.Listed.{usable-level}

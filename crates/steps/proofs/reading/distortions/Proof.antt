@@ -1,4 +1,4 @@
-use mathlib.Core.Path.{_≡_, refl, _∙_, ap}
+use mathlib.Core.Path.{_≡_, _∙_, ap}
 use Rattle.steps.proofs.Listed.{usable-back, usable-level, each-listed}
 use Rattle.steps.proofs.Arrays.{Front, front-none, front-more}
 use Rattle.steps.specs.Place.{distortionAt}
@@ -6,7 +6,7 @@ use native.Mathlib.Omega.{arith}
 use lib.Ieee.{nan}
 use lib.IntN.{pos}
 use lib.ListN.{length, getD, length-set}
-use Prim.Native.Nat.{ℕ, _≤_, _-_}
+use Prim.Native.Nat.{_≤_, _-_}
 use borrow.Author.Needs.{needs}
 use Rattle.steps.proofs.reading.distortions.Statement.{statement}
 use Rattle.steps.proofs.reading.distortions.Tie as tie

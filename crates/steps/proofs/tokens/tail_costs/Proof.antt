@@ -13,7 +13,7 @@ use Rattle.ac_context.specs.Contexts.{Coefficient}
 use Rattle.block.specs.Block.{nonzerosAmong}
 use Rattle.steps.specs.Plan.{Whole}
 use native.Mathlib.Omega.{arith}
-use Prim.Native.Nat.{ℕ, _≤_, _<_, _-_, _+_}
+use Prim.Native.Nat.{ℕ, _≤_, _<_, _-_}
 use mathlib.Core.Path.{_≡_, sym, _∙_, ap}
 use borrow.Author.Needs.{needs}
 use Rattle.steps.proofs.tokens.tail_costs.Statement.{statement}

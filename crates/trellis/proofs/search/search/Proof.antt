@@ -1,8 +1,4 @@
-use mathlib.Core.Path.{_≡_, refl, _∙_, subst⁻¹}
-use mathlib.Core.List.{List}
-use Prim.Native.Nat.{ℕ, _≤_}
-use lib.Ieee.{Float}
-use Rattle.trellis_table.specs.Rows.{RowAt}
+use mathlib.Core.Path.{refl, _∙_}
 use Rattle.trellis.proofs.Whole.{whole-past, window-fits, levels-few, scan-of, scan-long, window-some, still-long, live-stands, live-room, from-first}
 use borrow.Author.Needs.{needs}
 use Rattle.trellis.proofs.search.search.Statement.{statement}

@@ -1,5 +1,3 @@
-use mathlib.Core.Path.{_≡_, _∙_}
-use Prim.Native.Nat.{ℕ, _+_, _≤_}
 use native.Mathlib.Omega.{arith}
 use lib.ListN.{length-set}
 use Rattle.trellis.proofs.Starting.{two-long, past-is, tail-starts}

@@ -1,14 +1,11 @@
-use mathlib.Core.Path.{_≡_, refl, sym, ap, _∙_, subst}
-use mathlib.Core.List.{List}
-use Prim.Native.Nat.{ℕ, suc, _+_, _-_, _*_, _≤_, _<_, zero-le}
+use mathlib.Core.Path.{_≡_, refl, ap}
+use Prim.Native.Nat.{ℕ, _+_, _-_, _≤_, zero-le}
 use native.Mathlib.Omega.{arith}
-use lib.IntN.{ℤ, pos}
-use lib.ListN.{length, getD, set, length-set}
-use Rattle.trellis_table.specs.Rows.{windowLength}
+use lib.ListN.{length}
 use Rattle.trellis.specs.Walk.{Walkable}
 use Rattle.trellis.proofs.Walking.{WalkedTo, walk-starts, walked-on, walk-ends, levels-length, in-window, past-window, readable-now, input-some, state-here, left-few, index-below, level-left}
 use Rattle.trellis_table.proofs.Totals.{covered-few}
-use Rattle.trellis_table.proofs.Steps.{position-few, window-is, window-few}
+use Rattle.trellis_table.proofs.Steps.{position-few, window-few}
 use borrow.Author.Needs.{needs}
 use Rattle.trellis.proofs.walk.write_levels.Statement.{statement}
 use Rattle.trellis.proofs.walk.write_levels.Tie as tie

@@ -1,16 +1,14 @@
-use Rattle.trellis_choice.specs.Chosen.{isTie}
-use lib.ListN.{length}
 use Rattle.trellis_choice.proofs.Tying.{Untied, untied-none, untied-more, tied-here, untied-all}
 use Rattle.trellis_choice.specs.Locals.{Each}
 use lib.Ieee.{Float}
 use lib.ListN.{getD}
 use lib.IntN.{ℤ, pos}
-use Rattle.steps.proofs.Listed.{usable-listed, listed-at, listed-length, listed-below}
+use Rattle.steps.proofs.Listed.{usable-listed, listed-length, listed-below}
 use Rattle.trellis_choice.specs.Locals.{listed}
-use mathlib.Core.Path.{_≡_, _∙_, sym, ap}
+use mathlib.Core.Path.{_≡_, _∙_, sym}
 use Rattle.candidates.specs.Candidates.{inArray}
 use native.Mathlib.Omega.{arith}
-use Prim.Native.Nat.{ℕ, _≤_, _-_}
+use Prim.Native.Nat.{_≤_, _-_}
 use borrow.Author.Needs.{needs}
 use Rattle.trellis_choice.proofs.chosen.first_tied.Statement.{statement}
 use Rattle.trellis_choice.proofs.chosen.first_tied.Tie as tie

@@ -1,6 +1,5 @@
 use Rattle.steps.proofs.Zero.{zero-nz, other-nz}
 use Rattle.trellis_choice.specs.Chosen.{isTie}
-use borrow.Author.Needs.{needs}
 use Rattle.trellis_choice.proofs.chosen.ties.Statement.{statement}
 use Rattle.trellis_choice.proofs.chosen.ties.Tie as tie
 

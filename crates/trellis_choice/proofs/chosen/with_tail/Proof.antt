@@ -1,4 +1,3 @@
-use mathlib.Core.Path.{_≡_}
 use borrow.Author.Needs.{needs}
 use Rattle.trellis_choice.proofs.chosen.with_tail.Statement.{statement}
 use Rattle.trellis_choice.proofs.chosen.with_tail.Tie as tie

@@ -6,7 +6,7 @@ use Rattle.trellis_choice.specs.Locals.{listed}
 use mathlib.Core.Path.{_≡_, refl, _∙_, sym, ap}
 use Rattle.candidates.specs.Candidates.{inArray}
 use native.Mathlib.Omega.{arith}
-use Prim.Native.Nat.{ℕ, _≤_, _-_}
+use Prim.Native.Nat.{_≤_, _-_}
 use borrow.Author.Needs.{needs}
 use Rattle.trellis_choice.proofs.chosen.zero_index.Statement.{statement}
 use Rattle.trellis_choice.proofs.chosen.zero_index.Tie as tie

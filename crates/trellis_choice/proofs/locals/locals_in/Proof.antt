@@ -1,6 +1,5 @@
 use Rattle.steps.proofs.Listed.{usable-level, usable-listed, listed-length, listed-below, listed-few}
 use Rattle.trellis_choice.specs.declared.locals.Locals.{Locals}
-use Rattle.trellis_choice.specs.Locals.{noted}
 use Rattle.steps.specs.Place.{distortionAt}
 use mathlib.Core.Path.{_≡_, _∙_, sym, ap}
 use Rattle.trellis_choice.proofs.Noting.{Partly, partly-none, partly-noted, partly-all}
@@ -9,7 +8,7 @@ use Rattle.steps.specs.Place.{localIn}
 use Rattle.prices.specs.Book.{bookOf}
 use Rattle.candidates.specs.Candidates.{inArray}
 use native.Mathlib.Omega.{arith}
-use Prim.Native.Nat.{ℕ, _≤_, _-_}
+use Prim.Native.Nat.{_≤_, _-_}
 use borrow.Author.Needs.{needs}
 use Rattle.trellis_choice.proofs.locals.locals_in.Statement.{statement}
 use Rattle.trellis_choice.proofs.locals.locals_in.Tie as tie

@@ -1,5 +1,4 @@
 use Rattle.trellis_row.proofs.Rows.{SoFar, so-far-none, so-far-more, so-far-room, so-far-pair, workable-less, coding-of, located-at, elsewhere-pair, written-dead, nonzero-tail-cost, zero-tail-cost, zero-tail-is, not-below}
-use Rattle.trellis_row.specs.Row.{Ready}
 use Rattle.ac_context.proofs.Bounds.{covered-most}
 use Rattle.candidates.specs.Candidates.{inArray}
 use Rattle.steps.proofs.Listed.{listed-few}
@@ -9,7 +8,7 @@ use lib.ListN.{length, length-set}
 use native.Mathlib.Nat.{le-refl}
 use native.Mathlib.Omega.{arith}
 use mathlib.Core.Path.{_≡_, refl, sym, ap, _∙_}
-use Prim.Native.Nat.{ℕ, _+_, _-_, _*_, _≤_}
+use Prim.Native.Nat.{_+_, _-_}
 use borrow.Author.Needs.{needs}
 use Rattle.trellis_row.proofs.row.fill_row.Statement.{statement}
 use Rattle.trellis_row.proofs.row.fill_row.Tie as tie

@@ -4,8 +4,7 @@ use Rattle.trellis_row.specs.Row.{Ready}
 use Rattle.candidates.specs.Candidates.{inArray}
 use native.Mathlib.Omega.{arith}
 use mathlib.Core.Path.{_≡_}
-use Prim.Native.Nat.{ℕ, _+_, _-_}
-use borrow.Author.Needs.{needs}
+use Prim.Native.Nat.{_+_, _-_}
 use Rattle.trellis_row.proofs.row.fill_run.Statement.{statement}
 use Rattle.trellis_row.proofs.row.fill_run.Tie as tie
 

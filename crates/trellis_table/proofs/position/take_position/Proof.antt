@@ -1,15 +1,11 @@
 use Rattle.least_cost.proofs.Trial.{nz-le}
 use Rattle.trellis_table.proofs.Steps.{lowest-is, highest-is, from-is, upto-is, room-of, space-of, sum-is, level-current}
 use Rattle.steps.proofs.Zero.{handed-back, handed-current}
-use Rattle.trellis_table.specs.Rows.{leastCount}
-use Prim.Native.Nat.{max, min}
-use lib.ListN.{length}
 use Rattle.trellis_table.proofs.Steps.{readable-here, base-few, position-few, window-is, window-few, remaining-few, past-few, working, counts-narrow, counts-some, stepped}
 use Rattle.least_cost.specs.Position.{nz}
-use Rattle.steps.specs.Plan.{Lists}
 use native.Mathlib.Omega.{arith}
-use Prim.Native.Nat.{ℕ, suc, _+_, _-_, _*_, _≤_, _<_}
-use mathlib.Core.Path.{_≡_, refl, sym, _∙_, ap}
+use Prim.Native.Nat.{_≤_}
+use mathlib.Core.Path.{refl, sym, _∙_, ap}
 use borrow.Author.Needs.{needs}
 use Rattle.trellis_table.proofs.position.take_position.Statement.{statement}
 use Rattle.trellis_table.proofs.position.take_position.Tie as tie

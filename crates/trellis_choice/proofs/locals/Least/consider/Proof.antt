@@ -1,5 +1,4 @@
 use Rattle.trellis_choice.specs.Locals.{considered}
-use borrow.Author.Needs.{needs}
 use Rattle.trellis_choice.proofs.locals.Least.consider.Statement.{statement}
 use Rattle.trellis_choice.proofs.locals.Least.consider.Tie as tie
 
