@@ -45,4 +45,4 @@ split s m l v =
 
 -- A configuration that check 4 of document 01 passes.
 unfoldable pub validConfig : (s m l : ℕ) → Bool
-validConfig s m l = leb s 6 && leb (m + l) s && leb (2 ^ s + (17 - s) * 2 ^ (m + l)) 128
+validConfig s m l = leb s 6 && leb (m + l) s
