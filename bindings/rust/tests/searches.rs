@@ -207,7 +207,7 @@ fn wrong_books_are_refused() {
     let mut wrong = map.clone();
     wrong[CONTEXTS - 1] = 1;
     with(1, wrong, configs.clone(), symbols.clone(), ready.clone()).refused(Refusal::MapEntry);
-    with(1, map.clone(), vec![5, 2, 2], symbols.clone(), ready.clone()).refused(Refusal::Configuration);
+    with(1, map.clone(), vec![5, 3, 3], symbols.clone(), ready.clone()).refused(Refusal::Configuration);
     let mut wrong = symbols.clone();
     wrong[127] = -1.0;
     with(1, map.clone(), configs.clone(), wrong, ready.clone()).refused(Refusal::SymbolPrice);

@@ -1,1 +1,2 @@
 mod Priced
+pub mod NoWord
