@@ -1,9 +1,9 @@
 /*
  * The level search of a JPEG XL encoder, for one block.
  *
- * The functions are those of crates/rdoq_c, whose contracts are proved. Build the library with
+ * The functions are those of crates/c_leaves, c_book and c_search, whose contracts are proved. Build the library with
  *
- *     rt staticlib rdoq_c        writes target/staticlib/librdoq_c.a
+ *     make library               writes target/staticlib/librdoq_c.a
  *
  * and link that archive. It needs nothing but memset. x86-64 Linux only.
  *
