@@ -33,3 +33,8 @@ pub record Codes (k : Coding) : Type 0 where
   pub configured : length (k .configs) ≡ 3 * k .clusters
   pub cluster : (context : ℕ) → context < 14850 → getD (k .map) context 0 < k .clusters
   pub valid : (cluster : ℕ) → cluster < k .clusters → clusterValid (k .configs) cluster ≡ true
+
+-- a map and configurations for some number of clusters
+pub record Coded (map configs : List ℕ) : Type 0 where
+  pub clusters : ℕ
+  pub codes : Codes (codingOf clusters map configs)

@@ -1,1 +1,4 @@
-
+mod Lists
+mod Uses
+mod Steps
+mod Ends

@@ -28,14 +28,14 @@ areTokens t = eqb (length (t .values)) (many t) && each (many t) (λ i. leb (get
 -- 27: every count that a token adds to stays below 2^32, and the total below 2^64
 unfoldable pub addable : Coding → Tokens → Tally → Bool
 addable k t y =
-    each (many t) (λ i. leb (getD (y .counts) (placeAt k t i) 0 + usedAt k t (many t) (placeAt k t i)) 4294967295)
-    && leb (y .extra + extraUsed k t (many t)) 18446744073709551615
+    each (many t) (λ i. leb (getD (y .counts) (placeAt (k .map) (k .configs) t i) 0 + usedAt (k .map) (k .configs) t (many t) (placeAt (k .map) (k .configs) t i)) 4294967295)
+    && leb (y .extra + extraUsed (k .map) (k .configs) t (many t)) 18446744073709551615
 
 -- 28: every count that a token is taken from has as many, and so has the total
 unfoldable pub removable : Coding → Tokens → Tally → Bool
 removable k t y =
-    each (many t) (λ i. leb (usedAt k t (many t) (placeAt k t i)) (getD (y .counts) (placeAt k t i) 0))
-    && leb (extraUsed k t (many t)) (y .extra)
+    each (many t) (λ i. leb (usedAt (k .map) (k .configs) t (many t) (placeAt (k .map) (k .configs) t i)) (getD (y .counts) (placeAt (k .map) (k .configs) t i) 0))
+    && leb (extraUsed (k .map) (k .configs) t (many t)) (y .extra)
 
 -- the checks of both calls, in their order, with the call's own last
 unfoldable pub tallyChecks : Coding → Tokens → Tally → Bool × ℕ → List (Bool × ℕ)
@@ -53,11 +53,11 @@ listed f a zero = []
 listed f a (suc n) = f a ∷ listed f (suc a) n
 
 -- The tally with the first n tokens added, and with them taken out.
-unfoldable pub plus : Coding → Tokens → ℕ → Tally → Tally
-plus k t n y = tallyOf (listed (λ s. getD (y .counts) s 0 + usedAt k t n s) 0 (length (y .counts))) (y .extra + extraUsed k t n)
+unfoldable pub plus : List ℕ → List ℕ → Tokens → ℕ → Tally → Tally
+plus map configs t n y = tallyOf (listed (λ s. getD (y .counts) s 0 + usedAt map configs t n s) 0 (length (y .counts))) (y .extra + extraUsed map configs t n)
 
-unfoldable pub minus : Coding → Tokens → ℕ → Tally → Tally
-minus k t n y = tallyOf (listed (λ s. getD (y .counts) s 0 - usedAt k t n s) 0 (length (y .counts))) (y .extra - extraUsed k t n)
+unfoldable pub minus : List ℕ → List ℕ → Tokens → ℕ → Tally → Tally
+minus map configs t n y = tallyOf (listed (λ s. getD (y .counts) s 0 - usedAt map configs t n s) 0 (length (y .counts))) (y .extra - extraUsed map configs t n)
 
 -- What a call answers, 0 or the number of its refusal, and the tally afterwards: a refused call leaves it as it was.
 pub record Outcome : Type 0 where
@@ -68,7 +68,7 @@ abbrev pub outcomeOf : ℕ → Tally → Outcome
 outcomeOf reply tally = record { reply = reply; tally = tally }
 
 unfoldable pub added : Coding → Tokens → Tally → Outcome
-added k t y = outcomeOf (addRefusal k t y) (cond (eqb (addRefusal k t y) 0) (plus k t (many t) y) y)
+added k t y = outcomeOf (addRefusal k t y) (cond (eqb (addRefusal k t y) 0) (plus (k .map) (k .configs) t (many t) y) y)
 
 unfoldable pub removed : Coding → Tokens → Tally → Outcome
-removed k t y = outcomeOf (removeRefusal k t y) (cond (eqb (removeRefusal k t y) 0) (minus k t (many t) y) y)
+removed k t y = outcomeOf (removeRefusal k t y) (cond (eqb (removeRefusal k t y) 0) (minus (k .map) (k .configs) t (many t) y) y)
