@@ -1,4 +1,5 @@
 mod Lists
-mod Uses
+pub mod Uses
 mod Steps
 mod Ends
+pub mod Checks

@@ -37,9 +37,12 @@ removable k t y =
     each (many t) (λ i. leb (usedAt (k .map) (k .configs) t (many t) (placeAt (k .map) (k .configs) t i)) (getD (y .counts) (placeAt (k .map) (k .configs) t i) 0))
     && leb (extraUsed (k .map) (k .configs) t (many t)) (y .extra)
 
--- the checks of both calls, in their order, with the call's own last
+-- the checks of both calls, in their order: 128 counts a cluster belong to 2; the call's own comes last
+unfoldable pub sharedChecks : Coding → Tokens → ℕ → List (Bool × ℕ)
+sharedChecks k t places = codingChecks k (eqb places (128 * k .clusters)) ++ (areTokens t, 17) ∷ []
+
 unfoldable pub tallyChecks : Coding → Tokens → Tally → Bool × ℕ → List (Bool × ℕ)
-tallyChecks k t y own = codingChecks k (eqb (length (y .counts)) (128 * k .clusters)) ++ (areTokens t, 17) ∷ own ∷ []
+tallyChecks k t y own = sharedChecks k t (length (y .counts)) ++ own ∷ []
 
 unfoldable pub addRefusal : Coding → Tokens → Tally → ℕ
 addRefusal k t y = firstRefused (tallyChecks k t y (addable k t y, 27)) 0

@@ -1,12 +1,15 @@
 // Use of symbols in a batch: counts by cluster and symbol, and the total of extra bits, as the Rust's `AdaptiveRate::add` counts them. A block's tokens are added,
 // and taken out when the block is searched again.
 ghost use mathlib.Core.Path.{_≡_};
+ghost use mathlib.Core.Bool.{_&&_};
 ghost use Prim.Native.Nat.{_+_, _*_, _≤_, min};
+ghost use lib.Dec.{leb};
 ghost use lib.ListN.{length, getD};
-ghost use Rattle.coding.specs.Coding.{Coded};
+ghost use Rattle.coding.specs.Coding.{Coded, codingOf};
+ghost use Rattle.laws.specs.Refusals.{firstRefused};
 ghost use Rattle.prices.specs.Book.{clusterSymbol, clusterExtra};
 ghost use Rattle.tally.specs.Uses.{tokensOf};
-ghost use Rattle.tally.specs.Tally.{tallyOf};
+ghost use Rattle.tally.specs.Tally.{tallyOf, areTokens, sharedChecks};
 ghost use Rattle.tally.specs.Counting.{Countable, SomeAdded, SomeRemoved};
 
 // Where a token is counted, and its extra bits.
@@ -38,13 +41,13 @@ fn use_of(map: &[u8], configs: &[u8], context: u32, value: u32) -> Use
 }
 
 // How many tokens were counted, and the total of extra bits then.
-struct Counted {
-    done: usize,
-    extra: u64,
+pub struct Counted {
+    pub done: usize,
+    pub extra: u64,
 }
 
 // Adds the first n tokens, up to one that would pass the type of its count or of the total.
-fn add_some(
+pub fn add_some(
     map: &[u8],
     configs: &[u8],
     contexts: &[u32],
@@ -86,7 +89,7 @@ fn add_some(
 }
 
 // Takes the first n tokens out, up to one that would bring its count or the total below 0.
-fn remove_some(
+pub fn remove_some(
     map: &[u8],
     configs: &[u8],
     contexts: &[u32],
@@ -125,4 +128,49 @@ fn remove_some(
         done: i,
         extra: total,
     }
+}
+
+fn is_token(context: u32, value: u32) -> bool
+    ensures { λ r. ⌜ r ≡ (leb context 14849 && leb value 131071) ⌝ }
+{
+    if context > 14849 {
+        return false;
+    }
+    value <= 131071
+}
+
+// 17: two lists of one length, contexts below 14,850, values up to 131,071.
+fn are_tokens(contexts: &[u32], values: &[u32]) -> bool
+    ensures { λ r. ⌜ r ≡ areTokens (tokensOf (now (contexts .entry)) (now (values .entry))) ⌝ }
+{
+    if values.len() != contexts.len() {
+        return false;
+    }
+    let mut i = 0;
+    while i < contexts.len() {
+        if is_token(contexts[i], values[i]) {
+            i += 1;
+        } else {
+            return false;
+        }
+    }
+    true
+}
+
+// Checks 1 to 4 and 17: the number of the first that fails, or 0. `places`: how many counts were lent.
+pub fn check_tokens(
+    clusters: u32,
+    map: &[u8],
+    configs: &[u8],
+    contexts: &[u32],
+    values: &[u32],
+    places: usize,
+) -> u32
+    ensures { λ r. ⌜ r ≡ firstRefused (sharedChecks (codingOf clusters (now (map .entry)) (now (configs .entry))) (tokensOf (now (contexts .entry)) (now (values .entry))) places) 0 ⌝ }
+{
+    let first = coding::check_coding(clusters, map, configs, places == 128 * (clusters as usize));
+    if first != 0 {
+        return first;
+    }
+    if are_tokens(contexts, values) { 0 } else { 17 }
 }
