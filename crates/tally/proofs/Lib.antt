@@ -2,4 +2,6 @@ mod Lists
 pub mod Uses
 mod Steps
 mod Ends
+pub mod Undone
 pub mod Checks
+pub mod Settled

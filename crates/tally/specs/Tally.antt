@@ -44,12 +44,6 @@ sharedChecks k t places = codingChecks k (eqb places (128 * k .clusters)) ++ (ar
 unfoldable pub tallyChecks : Coding → Tokens → Tally → Bool × ℕ → List (Bool × ℕ)
 tallyChecks k t y own = sharedChecks k t (length (y .counts)) ++ own ∷ []
 
-unfoldable pub addRefusal : Coding → Tokens → Tally → ℕ
-addRefusal k t y = firstRefused (tallyChecks k t y (addable k t y, 27)) 0
-
-unfoldable pub removeRefusal : Coding → Tokens → Tally → ℕ
-removeRefusal k t y = firstRefused (tallyChecks k t y (removable k t y, 28)) 0
-
 -- n numbers, f at each place from a on
 unfoldable pub listed : (ℕ → ℕ) → ℕ → ℕ → List ℕ
 listed f a zero = []
@@ -70,8 +64,14 @@ pub record Outcome : Type 0 where
 abbrev pub outcomeOf : ℕ → Tally → Outcome
 outcomeOf reply tally = record { reply = reply; tally = tally }
 
+-- the number of the first check that fails, the call's own last, and the tally; 0 where none fails, and what comes out
+unfoldable pub settled : Coding → Tokens → Tally → Bool × ℕ → Tally → Outcome
+settled k t y own after =
+    let refusal = firstRefused (tallyChecks k t y own) 0 in
+    outcomeOf refusal (cond (eqb refusal 0) after y)
+
 unfoldable pub added : Coding → Tokens → Tally → Outcome
-added k t y = outcomeOf (addRefusal k t y) (cond (eqb (addRefusal k t y) 0) (plus (k .map) (k .configs) t (many t) y) y)
+added k t y = settled k t y (addable k t y, 27) (plus (k .map) (k .configs) t (many t) y)
 
 unfoldable pub removed : Coding → Tokens → Tally → Outcome
-removed k t y = outcomeOf (removeRefusal k t y) (cond (eqb (removeRefusal k t y) 0) (minus (k .map) (k .configs) t (many t) y) y)
+removed k t y = settled k t y (removable k t y, 28) (minus (k .map) (k .configs) t (many t) y)
