@@ -271,7 +271,7 @@ fn the_room_that_each_search_needs() {
 fn a_room_by_covered_blocks_serves_a_large_block() {
     // 4 by 8 units: 32 covered blocks, a window of 1,024
     let mut given = Given::zero();
-    given.shape = Shape { cx: 4, cy: 8, ..given.shape };
+    given.shape = Shape { cx: 4, cy: 8, strategy: 19, ..given.shape };
     given.scan = (0..2_048).rev().collect();
     given.source = vec![0.0; 2_048];
     given.inv_qm = vec![1.0; 2_048];

@@ -366,11 +366,11 @@ fn price_book(random: &mut Random, made: usize, book: &data::Book, tally: &mut T
 
 /// Drawn books, and books of 5,2,2, 6,3,0 and 6,m,6-m alone.
 fn price_calls() -> [Tally; 2] {
-    let mut tally = Tally::new("token_bits, token_bits_pair", "all values, each in a drawn context, in 50 books");
+    let mut tally = Tally::new("token_bits, token_bits_pair", "all values, each in a drawn context, in 100 books");
     let mut none = Tally::new("the same, values that have no word", "held to +infinity; the Rust would index past 127");
     let mut random = Random::of(&[19]);
     let mut made = 0;
-    while made < 30 {
+    while made < 80 {
         let book = books::random_book(&mut random);
         if checks::book_refusal(&book) == 0 {
             price_book(&mut random, made, &book, &mut tally, &mut none);
@@ -378,7 +378,7 @@ fn price_calls() -> [Tally; 2] {
         }
     }
     let past: Vec<[u8; 3]> = [[5, 2, 2], [6, 3, 0]].into_iter().chain((0..=6).map(|m| [6, m, 6 - m])).collect();
-    while made < 50 {
+    while made < 100 {
         let configs: Vec<_> = (0..1 + random.below(4)).map(|_| random.pick(&past)).collect();
         let book = book_of(&mut random, &configs);
         price_book(&mut random, made, &book, &mut tally, &mut none);

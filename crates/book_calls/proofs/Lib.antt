@@ -1,2 +1,2 @@
 mod Priced
-pub mod NoWord
+mod NoWord
