@@ -28,5 +28,9 @@ pub fn check_coding(clusters: u32, map: &[u8], configs: &[u8], others: bool) -> 
     if !book_checks::map_below(map, clusters) {
         return 3;
     }
-    if book_checks::configs_valid(configs, n) { 0 } else { 4 }
+    if book_checks::configs_valid(configs, n) {
+        0
+    } else {
+        4
+    }
 }

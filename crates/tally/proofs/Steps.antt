@@ -50,8 +50,10 @@ module _ (map configs : List ℕ) (t : Tokens) (counts : List ℕ) where
 
     has-both : (room : ℕ → ℕ) (rest : ℕ) → usedAt map configs t n p < room p → e + extraUsed map configs t n ≤ rest → hasRoom map configs t room rest n ≡ true
     has-both room rest h g =
-        rw (le-leb (usedAt map configs t (suc n) (placeAt map configs t n)) (room (placeAt map configs t n)) (omega (arith, used, h, ap room place)),
-            le-leb (extraUsed map configs t (suc n)) rest (omega (arith, g, more, extra-next map configs t n)))
+        rw (
+          le-leb (usedAt map configs t (suc n) (placeAt map configs t n)) (room (placeAt map configs t n)) (omega (arith, used, h, ap room place)),
+          le-leb (extraUsed map configs t (suc n)) rest (omega (arith, g, more, extra-next map configs t n)),
+        )
 
     pub add-full : getD counts p 0 + usedAt map configs t n p ≡ 4294967295 → hasRoom map configs t (toAdd (tallyOf counts extra)) (restToAdd (tallyOf counts extra)) n ≡ false
     add-full h = lacks-place (toAdd (tallyOf counts extra)) _ (omega (arith, h))

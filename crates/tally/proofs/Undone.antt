@@ -53,9 +53,11 @@ module _ (map configs : List ℕ) (t : Tokens) (counts : List ℕ) (extra : ℕ)
   room-after-add : (i : ℕ) → i < n → hasRoom map configs t (toRemove (plus map configs t n y)) (plus map configs t n y .extra) i ≡ true
   unfolding plus
   room-after-add i h =
-      rw (le-leb (usedAt map configs t (suc i) (placeAt map configs t i)) (getD (plus map configs t n y .counts) (placeAt map configs t i) 0)
-          (omega (arith, plus-at (placeAt map configs t i) (inside i h), used-within map configs t (suc i) n (placeAt map configs t i) h)),
-          le-leb (extraUsed map configs t (suc i)) (extra + extraUsed map configs t n) (omega (arith, extra-within map configs t (suc i) n h)))
+      rw (
+        le-leb (usedAt map configs t (suc i) (placeAt map configs t i)) (getD (plus map configs t n y .counts) (placeAt map configs t i) 0)
+            (omega (arith, plus-at (placeAt map configs t i) (inside i h), used-within map configs t (suc i) n (placeAt map configs t i) h)),
+        le-leb (extraUsed map configs t (suc i)) (extra + extraUsed map configs t n) (omega (arith, extra-within map configs t (suc i) n h)),
+      )
 
   pub taken-back : {done : ℕ} {z : Tally} → SomeRemoved map configs t n (plus map configs t n y) done z → z ≡ y
   taken-back {done} {z} R = go (ltb done n) refl
@@ -104,9 +106,11 @@ module _ (map configs : List ℕ) (t : Tokens) (counts : List ℕ) (extra : ℕ)
     unfolding minus
     room-after-remove i h =
         let s = placeAt map configs t i in
-        rw (le-leb (usedAt map configs t (suc i) s) (4294967295 - getD (minus map configs t n y .counts) s 0)
-            (omega (arith, minus-at s (inside i h), used-within map configs t (suc i) n s h, at-most s, small s)),
-            le-leb (extraUsed map configs t (suc i)) (18446744073709551615 - (extra - extraUsed map configs t n)) (omega (arith, extra-within map configs t (suc i) n h, bits-most, total)))
+        rw (
+          le-leb (usedAt map configs t (suc i) s) (4294967295 - getD (minus map configs t n y .counts) s 0)
+              (omega (arith, minus-at s (inside i h), used-within map configs t (suc i) n s h, at-most s, small s)),
+          le-leb (extraUsed map configs t (suc i)) (18446744073709551615 - (extra - extraUsed map configs t n)) (omega (arith, extra-within map configs t (suc i) n h, bits-most, total)),
+        )
 
     pub put-back : {done : ℕ} {z : Tally} → SomeAdded map configs t n (minus map configs t n y) done z → z ≡ y
     put-back {done} {z} A = go (ltb done n) refl

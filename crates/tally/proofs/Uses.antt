@@ -69,7 +69,7 @@ module _ (map configs : List ℕ) (t : Tokens) where
         go true e rest-fits here some =
             let same = eqb-true (placeAt map configs t n) s e in
             let fits : usedAt map configs t (suc n) (placeAt map configs t n) ≤ room (placeAt map configs t n) =
-                leb-true (usedAt map configs t (suc n) (placeAt map configs t n)) (room (placeAt map configs t n)) (and-left (leb (usedAt map configs t (suc n) (placeAt map configs t n)) (room (placeAt map configs t n))) (leb (extraUsed map configs t (suc n)) rest) here) in
+            leb-true (usedAt map configs t (suc n) (placeAt map configs t n)) (room (placeAt map configs t n)) (and-left (leb (usedAt map configs t (suc n) (placeAt map configs t n)) (room (placeAt map configs t n))) (leb (extraUsed map configs t (suc n)) rest) here) in
             let used : 1 + usedAt map configs t n s ≡ usedAt map configs t (suc n) (placeAt map configs t n) = rw same (omega (arith, rw same at (used-here n))) in
             omega (arith, fits, used, ap room same)
         go false e rest-fits here some = omega (arith, rest-fits (omega (arith, some)))

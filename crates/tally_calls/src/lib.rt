@@ -10,6 +10,7 @@ ghost use Rattle.tally.specs.Uses.{tokensOf};
 ghost use Rattle.tally.specs.Tally.{tallyOf, outcomeOf, added, removed};
 
 const FULL: u32 = 27;
+
 const EMPTY: u32 = 28;
 
 // Adds tokens. 27: a count would pass 2^32 - 1, or the total 2^64 - 1.

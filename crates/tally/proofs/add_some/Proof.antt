@@ -138,10 +138,11 @@ loop-again : tie.Need-loop-again Inv-loop μ-loop
 loop-again c =
     let at = c .before .before .before .before .before in
     let G = at .before .before .before .before .loop .inv .0 in
-    let room = (c .before .before .before .before .slice-known2 .given (at .use-of .result .place)) .fits in
-    (going-next _+_ (toAdd (tallyOf (counts at) (extra at))) (restToAdd (tallyOf (counts at) (extra at))) (map at) (configs at) (tokens at) (start at .args .n) (counts at) (extra at) G (p at) (getD (at .before .before .before .before .loop .counts) (p at) 0 + 1) (at .before .before .before .before .loop .total + e at) (at .before .before .before .loop-test .taken) (place at) (inside at) (omega (arith, count at)) (omega (arith, G .total-is, bits at))
-    (add-fits (map at) (configs at) (tokens at) (counts at) (extra at) (i at) (p at) (e at) (place at) (bits at) (omega (arith, count at, room, c .before .before .before .if1 .left)) (omega (arith, G .total-is, at .before .before .before .before .loop .inv .1, c .before .if2 .left))),
-    omega (arith, at .before .before .before .before .loop .inv .1, c .before .if2 .left))
+    let room = (c .before .before .before .before .slice-known2 .given (at .use-of .result .place)) .fits in (
+      going-next _+_ (toAdd (tallyOf (counts at) (extra at))) (restToAdd (tallyOf (counts at) (extra at))) (map at) (configs at) (tokens at) (start at .args .n) (counts at) (extra at) G (p at) (getD (at .before .before .before .before .loop .counts) (p at) 0 + 1) (at .before .before .before .before .loop .total + e at) (at .before .before .before .loop-test .taken) (place at) (inside at) (omega (arith, count at)) (omega (arith, G .total-is, bits at))
+          (add-fits (map at) (configs at) (tokens at) (counts at) (extra at) (i at) (p at) (e at) (place at) (bits at) (omega (arith, count at, room, c .before .before .before .if1 .left)) (omega (arith, G .total-is, at .before .before .before .before .loop .inv .1, c .before .if2 .left))),
+      omega (arith, at .before .before .before .before .loop .inv .1, c .before .if2 .left),
+    )
 
 same-length-3 : tie.Need-same-length-3 Inv-loop μ-loop
 same-length-3 c = going-length _ _ _ _ _ _ _ _ _ (c .before .loop .inv .0)

@@ -47,9 +47,10 @@ loop-less : tie.Need-loop-less Inv-loop μ-loop
 loop-less c = omega (arith, c .before .before .before .before .loop-test .taken)
 
 loop-again : tie.Need-loop-again Inv-loop μ-loop
-loop-again c =
-    (omega (arith, c .before .before .before .before .loop-test .taken),
-     each-more _ _ (c .before .before .before .before .before .loop .inv .1) (sym (c .before .is-token .ensures) ∙ c .if2 .taken))
+loop-again c = (
+  omega (arith, c .before .before .before .before .loop-test .taken),
+  each-more _ _ (c .before .before .before .before .before .loop .inv .1) (sym (c .before .is-token .ensures) ∙ c .if2 .taken),
+)
 
 returns-2 : tie.Need-returns-2 Inv-loop μ-loop
 returns-2 c =
