@@ -81,3 +81,12 @@ module _ (k : Coding) (t : Tokens) (y : Tally) (own : Bool) (n : ℕ) where
   pub shared-passed : firstRefused shared 0 ≡ 0 → firstRefused (tallyChecks k t y (own, n)) 0 ≡ cond own 0 n
   unfolding tallyChecks sharedChecks codingChecks firstRefused
   shared-passed e = in-turn shared ((own, n) ∷ []) 0 ∙ all-pass shared (cond own 0 n) refl e
+
+  -- where nothing refuses, the call's own check passed
+  pub own-passed : eqb n 0 ≡ false → firstRefused (tallyChecks k t y (own, n)) 0 ≡ 0 → own ≡ true
+  unfolding tallyChecks sharedChecks codingChecks
+  own-passed z e =
+      let last = firstRefused ((own, n) ∷ []) 0 in
+      let split = sym (in-turn shared ((own, n) ∷ []) 0) ∙ e in
+      let ok = none-refused shared last refl split in
+      passes-first own n [] 0 z (sym (all-pass shared last refl ok) ∙ split) .0

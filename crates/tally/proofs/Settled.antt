@@ -15,7 +15,6 @@ use Rattle.tally.specs.Uses.{Tokens, placeAt, usedAt, extraUsed}
 use Rattle.tally.specs.Tally.{Tally, tallyOf, Outcome, outcomeOf, many, sharedChecks, tallyChecks, settled, added, removed, addable, removable, plus, minus}
 use Rattle.tally.specs.Counting.{hasRoom, allRoom, toAdd, restToAdd, toRemove}
 use Rattle.tally.proofs.Checks.{shared-refused, shared-passed}
-use Rattle.tally.proofs.Lists.{listed-length}
 use Rattle.tally.proofs.Uses.{all-have, one-lacks}
 
 module _ (k : Coding) (t : Tokens) (y : Tally) (own : Bool) (n : ℕ) (after : Tally) where
@@ -78,12 +77,3 @@ module _ (k : Coding) (t : Tokens) (y : Tally) where
     pub remove-done : ((i : ℕ) → i < many t → hasRoom (k .map) (k .configs) t (toRemove y) (y .extra) i ≡ true) → outcomeOf 0 (minus (k .map) (k .configs) t (many t) y) ≡ removed k t y
     unfolding removed removable
     remove-done h = own-passes k t y (removable k t y) 28 _ ok (all-have (k .map) (k .configs) t (toRemove y) (y .extra) (many t) h)
-
--- as many counts as before
-pub plus-sized : (map configs : List ℕ) (t : Tokens) (n : ℕ) (y : Tally) → length (plus map configs t n y .counts) ≡ length (y .counts)
-unfolding plus
-plus-sized map configs t n y = listed-length (λ s. getD (y .counts) s 0 + usedAt map configs t n s) 0 (length (y .counts))
-
-pub minus-sized : (map configs : List ℕ) (t : Tokens) (n : ℕ) (y : Tally) → length (minus map configs t n y .counts) ≡ length (y .counts)
-unfolding minus
-minus-sized map configs t n y = listed-length (λ s. getD (y .counts) s 0 - usedAt map configs t n s) 0 (length (y .counts))

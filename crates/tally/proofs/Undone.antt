@@ -11,7 +11,8 @@ use lib.ListN.{length, getD}
 use Rattle.tally.specs.Uses.{Tokens, placeAt, usedAt, extraUsed}
 use Rattle.tally.specs.Tally.{Tally, tallyOf, listed, plus, minus, many}
 use Rattle.tally.specs.Counting.{Countable, hasRoom, toAdd, restToAdd, toRemove, SomeAdded, SomeRemoved}
-use Rattle.tally.proofs.Lists.{listed-length, listed-at, listed-is}
+use Rattle.tally.proofs.Entries.{plus-sized, minus-sized, plus-at, minus-at}
+use Rattle.tally.proofs.Lists.{listed-is}
 use Rattle.tally.proofs.Steps.{in-places}
 use Rattle.tally.proofs.Uses.{used-some, used-within, extra-within, place-room, extra-room}
 
@@ -30,14 +31,6 @@ module _ (map configs : List ℕ) (t : Tokens) (counts : List ℕ) (extra : ℕ)
   inside i h = in-places K i (omega (arith, h, few))
 
   -- ---- added, then taken out
-  plus-at : (s : ℕ) → s < length counts → getD (plus map configs t n y .counts) s 0 ≡ getD counts s 0 + u s
-  unfolding plus
-  plus-at s h = listed-at (λ s. getD counts s 0 + u s) (length counts) s h
-
-  plus-length : length (plus map configs t n y .counts) ≡ length counts
-  unfolding plus
-  plus-length = listed-length (λ s. getD counts s 0 + u s) 0 (length counts)
-
   plus-extra : plus map configs t n y .extra - extraUsed map configs t n ≡ extra
   unfolding plus
   plus-extra = omega arith
@@ -46,8 +39,8 @@ module _ (map configs : List ℕ) (t : Tokens) (counts : List ℕ) (extra : ℕ)
   unfolding minus
   minus-plus =
       ap₂ (λ (c : List ℕ) (e : ℕ). tallyOf c e)
-      (listed-is (λ s. getD (plus map configs t n y .counts) s 0 - u s) (length (plus map configs t n y .counts)) counts (sym plus-length)
-      (λ i h. omega (arith, plus-at i (omega (arith, h, plus-length)))))
+      (listed-is (λ s. getD (plus map configs t n y .counts) s 0 - u s) (length (plus map configs t n y .counts)) counts (sym (plus-sized map configs t n y))
+      (λ i h. omega (arith, plus-at map configs t n y i (omega (arith, h, plus-sized map configs t n y)))))
       plus-extra
 
   room-after-add : (i : ℕ) → i < n → hasRoom map configs t (toRemove (plus map configs t n y)) (plus map configs t n y .extra) i ≡ true
@@ -55,7 +48,7 @@ module _ (map configs : List ℕ) (t : Tokens) (counts : List ℕ) (extra : ℕ)
   room-after-add i h =
       rw (
         le-leb (usedAt map configs t (suc i) (placeAt map configs t i)) (getD (plus map configs t n y .counts) (placeAt map configs t i) 0)
-            (omega (arith, plus-at (placeAt map configs t i) (inside i h), used-within map configs t (suc i) n (placeAt map configs t i) h)),
+            (omega (arith, plus-at map configs t n y (placeAt map configs t i) (inside i h), used-within map configs t (suc i) n (placeAt map configs t i) h)),
         le-leb (extraUsed map configs t (suc i)) (extra + extraUsed map configs t n) (omega (arith, extra-within map configs t (suc i) n h)),
       )
 
@@ -82,14 +75,6 @@ module _ (map configs : List ℕ) (t : Tokens) (counts : List ℕ) (extra : ℕ)
     bits-most : extraUsed map configs t n ≤ extra
     bits-most = extra-room map configs t (toRemove y) extra n had
 
-    minus-at : (s : ℕ) → s < length counts → getD (minus map configs t n y .counts) s 0 ≡ getD counts s 0 - u s
-    unfolding minus
-    minus-at s h = listed-at (λ s. getD counts s 0 - u s) (length counts) s h
-
-    minus-length : length (minus map configs t n y .counts) ≡ length counts
-    unfolding minus
-    minus-length = listed-length (λ s. getD counts s 0 - u s) 0 (length counts)
-
     minus-extra : minus map configs t n y .extra + extraUsed map configs t n ≡ extra
     unfolding minus
     minus-extra = omega (arith, bits-most)
@@ -98,8 +83,8 @@ module _ (map configs : List ℕ) (t : Tokens) (counts : List ℕ) (extra : ℕ)
     unfolding plus
     plus-minus =
         ap₂ (λ (c : List ℕ) (e : ℕ). tallyOf c e)
-        (listed-is (λ s. getD (minus map configs t n y .counts) s 0 + u s) (length (minus map configs t n y .counts)) counts (sym minus-length)
-        (λ i h. omega (arith, minus-at i (omega (arith, h, minus-length)), at-most i)))
+        (listed-is (λ s. getD (minus map configs t n y .counts) s 0 + u s) (length (minus map configs t n y .counts)) counts (sym (minus-sized map configs t n y))
+        (λ i h. omega (arith, minus-at map configs t n y i (omega (arith, h, minus-sized map configs t n y)), at-most i)))
         minus-extra
 
     room-after-remove : (i : ℕ) → i < n → hasRoom map configs t (toAdd (minus map configs t n y)) (restToAdd (minus map configs t n y)) i ≡ true
@@ -108,7 +93,7 @@ module _ (map configs : List ℕ) (t : Tokens) (counts : List ℕ) (extra : ℕ)
         let s = placeAt map configs t i in
         rw (
           le-leb (usedAt map configs t (suc i) s) (4294967295 - getD (minus map configs t n y .counts) s 0)
-              (omega (arith, minus-at s (inside i h), used-within map configs t (suc i) n s h, at-most s, small s)),
+              (omega (arith, minus-at map configs t n y s (inside i h), used-within map configs t (suc i) n s h, at-most s, small s)),
           le-leb (extraUsed map configs t (suc i)) (18446744073709551615 - (extra - extraUsed map configs t n)) (omega (arith, extra-within map configs t (suc i) n h, bits-most, total)),
         )
 

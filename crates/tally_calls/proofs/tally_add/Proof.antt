@@ -11,8 +11,9 @@ use Rattle.tally.specs.Uses.{Tokens, tokensOf}
 use Rattle.tally.specs.Tally.{Tally, tallyOf, outcomeOf, sharedChecks, plus}
 use Rattle.tally.specs.Counting.{Countable, SomeAdded, SomeRemoved}
 use Rattle.tally.proofs.Checks.{countable}
+use Rattle.tally.proofs.Entries.{plus-sized}
 use Rattle.tally.proofs.Undone.{taken-back}
-use Rattle.tally.proofs.Settled.{add-refused, add-full, add-done, plus-sized}
+use Rattle.tally.proofs.Settled.{add-refused, add-full, add-done}
 use Rattle.tally_calls.proofs.tally_add.Statement.{statement}
 use Rattle.tally_calls.proofs.tally_add.Tie as tie
 

@@ -11,8 +11,9 @@ use Rattle.tally.specs.Uses.{Tokens, tokensOf}
 use Rattle.tally.specs.Tally.{Tally, tallyOf, outcomeOf, sharedChecks, minus}
 use Rattle.tally.specs.Counting.{Countable, SomeRemoved, SomeAdded}
 use Rattle.tally.proofs.Checks.{countable}
+use Rattle.tally.proofs.Entries.{minus-sized}
 use Rattle.tally.proofs.Undone.{put-back}
-use Rattle.tally.proofs.Settled.{remove-refused, remove-empty, remove-done, minus-sized}
+use Rattle.tally.proofs.Settled.{remove-refused, remove-empty, remove-done}
 use Rattle.tally_calls.proofs.tally_remove.Statement.{statement}
 use Rattle.tally_calls.proofs.tally_remove.Tie as tie
 
