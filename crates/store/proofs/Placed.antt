@@ -110,5 +110,12 @@ copied-more at start i from zs {to} a b e =
         ∙ ap (λ (v : ℕ). take i (drop start from) ++ (v ∷ [])) (getD-drop start from i 0) in
     rw (e, t) s
 
-pub copied-none : (at start : ℕ) (from zs : List ℕ) → zs ≡ placed at (take 0 (drop start from)) zs
-copied-none at start from zs = sym (placed-none at zs)
+-- three numbers, one by one
+pub three-placed : (at a b d : ℕ) (zs : List ℕ) → at + 2 < length zs → set (set (set zs at a) (at + 1) b) (at + 2) d ≡ placed at (a ∷ b ∷ d ∷ []) zs
+three-placed at a b d zs h =
+    let zero' : at + 0 ≡ at = omega arith in
+    let one : set zs at a ≡ placed at (a ∷ []) zs =
+        ap₂ (λ (l : List ℕ) (k : ℕ). set l k a) (sym (placed-none at zs)) (sym zero') ∙ placed-set at [] zs (omega arith) a (omega arith) in
+    let two : set (placed at (a ∷ []) zs) (at + 1) b ≡ placed at (a ∷ b ∷ []) zs = placed-set at (a ∷ []) zs (omega arith) b (omega arith) in
+    let three : set (placed at (a ∷ b ∷ []) zs) (at + 2) d ≡ placed at (a ∷ b ∷ d ∷ []) zs = placed-set at (a ∷ b ∷ []) zs (omega arith) d (omega arith) in
+    rw (one, two, three)

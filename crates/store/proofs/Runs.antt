@@ -36,6 +36,11 @@ runs-more r n =
     let e : 0 + n ≡ n = omega arith in
     rw (add-one n) (runs-suc r 0 n ∙ ap (λ (k : ℕ). runsFrom r 0 n ++ (runAt r k ∷ [])) e)
 
+pub runs-length : (r : List ℕ) (i n : ℕ) → length (runsFrom r i n) ≡ n
+unfolding runsFrom
+runs-length r i zero = refl
+runs-length r i (suc n) = ap suc (runs-length r (suc i) n)
+
 -- ---- a record of given runs
 
 pub flat-length : (rs : List Run) → length (flat rs) ≡ 3 * length rs

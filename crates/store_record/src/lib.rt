@@ -2,6 +2,8 @@
 ghost use mathlib.Core.Path.{_≡_};
 ghost use mathlib.Core.List.{[], _∷_};
 ghost use Prim.Native.Nat.{ℕ, _+_, _*_, _≤_, _<_};
+ghost use mathlib.Core.Bool.{cond};
+ghost use lib.Dec.{eqb};
 ghost use lib.ListN.{length, getD};
 ghost use Rattle.store.specs.Placed.{placed};
 ghost use Rattle.store.specs.Runs.{runsFrom, others, live, endOf};
@@ -67,22 +69,32 @@ pub fn write_run(rec: &mut [u64], i: usize, number: u64, start: u64, size: u64)
     rec[3 * i + 3] = size;
 }
 
+// Writes a run behind the first `kept`, unless it stands under number `block`; how many are kept then.
+fn keep_run(rec: &mut [u64], kept: usize, number: u64, start: u64, size: u64, block: u64) -> usize
+    requires { ⌜ (3 * kept + 3 < length (now rec)) × (kept < 1024) ⌝ }
+    ensures { λ r. ⌜ r ≡ cond (eqb block number) kept (kept + 1) ⌝ }
+    ensures { λ _. ⌜ now (rec .exit) ≡ cond (eqb block number) (now (rec .entry)) (placed (3 * kept + 1) (number ∷ start ∷ size ∷ []) (now (rec .entry))) ⌝ }
+{
+    if block == number {
+        return kept;
+    }
+    write_run(rec, kept, number, start, size);
+    kept + 1
+}
+
 // Takes the run under number `block` out of the first `count`, those behind it moving up; how many are left. The number of runs in front is not written.
 pub fn remove(rec: &mut [u64], count: usize, block: u64) -> usize
     requires { ⌜ (length (now rec) ≡ 3073) × (count ≤ 1024) ⌝ }
     ensures { λ r. ⌜ Removed block (now (rec .entry)) count (now (rec .exit)) r ⌝ }
 {
-    let mut left: usize = 0;
+    let mut kept: usize = 0;
     let mut i = 0;
     while i < count {
         let number = rec[3 * i + 1];
         let start = rec[3 * i + 2];
         let size = rec[3 * i + 3];
-        if number != block {
-            write_run(rec, left, number, start, size);
-            left += 1;
-        }
+        kept = keep_run(rec, kept, number, start, size, block);
         i += 1;
     }
-    left
+    kept
 }
