@@ -1,1 +1,4 @@
-pub mod Passes
+pub mod Placed
+pub mod Runs
+pub mod Order
+pub mod Marks

@@ -1,1 +1,4 @@
-pub mod Found
+pub mod Placed
+pub mod Runs
+pub mod Marks
+pub mod Tokens

@@ -7,12 +7,12 @@ use native.Mathlib.Omega.{arith}
 use native.Mathlib.Nat.{not-suc-le-zero, le-antisymm}
 use lib.ListN.{length, getD, take, drop, set, length-append, length-drop}
 use lib.Seq.{length-take-le}
-use Rattle.store.specs.Placed.{placed}
-use Rattle.store.specs.Runs.{Run, run, runAt, runsFrom, flat, headed, inOrder, live, packed}
-use Rattle.store.specs.Tokens.{tokensOf, joined}
-use Rattle.store.proofs.Placed.{placed-none, placed-past, placed-rest, placed-length, placed-placed, copied-more}
-use Rattle.store.proofs.Runs.{runs-none, runs-next, runs-more, runs-length, flat-length, flat-append, flat-one}
-use Rattle.store.proofs.Order.{order-head, order-lower, packed-length}
+use Rattle.store_record.specs.Placed.{placed}
+use Rattle.store_record.specs.Runs.{Run, run, runAt, runsFrom, flat, headed, inOrder, live, packed}
+use Rattle.store_record.specs.Tokens.{tokensOf, joined}
+use Rattle.store_record.proofs.Placed.{placed-none, placed-past, placed-rest, placed-length, placed-placed, copied-more}
+use Rattle.store_record.proofs.Runs.{runs-none, runs-next, runs-more, runs-length, flat-length, flat-append, flat-one}
+use Rattle.store_record.proofs.Order.{order-head, order-lower, packed-length}
 use Rattle.store_room.specs.Compacted.{Compacted}
 
 -- one token more of a run that is moved down: it still stands where it stood

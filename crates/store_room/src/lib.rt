@@ -3,8 +3,8 @@ ghost use mathlib.Core.Path.{_≡_};
 ghost use mathlib.Core.Bool.{true};
 ghost use Prim.Native.Nat.{_+_, _≤_};
 ghost use lib.ListN.{length, getD, take, drop};
-ghost use Rattle.store.specs.Placed.{placed};
-ghost use Rattle.store.specs.Runs.{runsFrom, inOrder};
+ghost use Rattle.store_record.specs.Placed.{placed};
+ghost use Rattle.store_record.specs.Runs.{runsFrom, inOrder};
 ghost use Rattle.store_room.specs.Compacted.{Compacted};
 
 // Copies n tokens from `start` on to `at` on.
@@ -44,7 +44,7 @@ pub fn compact(room: &mut [u64], rec: &mut [u64], count: usize) -> usize
         let start = rec[3 * i + 2] as usize;
         let size = rec[3 * i + 3];
         move_down(room, start, size as usize, top);
-        store_record::write_run(rec, i, number, top as u64, size);
+        store_passes::write_run(rec, i, number, top as u64, size);
         top += size as usize;
         i += 1;
     }

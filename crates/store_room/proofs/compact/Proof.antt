@@ -9,7 +9,7 @@ use Rattle.store_room.proofs.compact.Statement.{statement}
 use Rattle.store_room.proofs.compact.Tie as tie
 use Rattle.store_room.proofs.compact.Reads as reads
 use Rattle.store_room.proofs.compact.Lts as lts
-use Rattle.store_record.proofs.write_run.Reads as write-run-reads
+use Rattle.store_passes.proofs.write_run.Reads as write-run-reads
 use Rattle.store_room.proofs.move_down.Reads as move-down-reads
 
 abbrev Inv-loop : tie.InvT-loop

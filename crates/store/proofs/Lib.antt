@@ -1,4 +1,0 @@
-pub mod Placed
-pub mod Runs
-pub mod Order
-pub mod Marks

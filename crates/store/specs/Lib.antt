@@ -1,4 +1,0 @@
-pub mod Placed
-pub mod Runs
-pub mod Marks
-pub mod Tokens
