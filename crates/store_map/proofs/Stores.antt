@@ -12,7 +12,8 @@ use Rattle.store_record.specs.Placed.{placed}
 use Rattle.store_record.specs.Runs.{Run, run, runsFrom, runsOf, flat, recorded, inOrder, numbered, holds, validRuns, validRecord, others, live, endOf, packed}
 use Rattle.store_record.specs.Tokens.{tokensOf, joined}
 use Rattle.store_record.proofs.Placed.{placed-length, placed-back}
-use Rattle.store_record.proofs.Runs.{runs-length, flat-length, read-back}
+use Rattle.store_record.proofs.Runs.{runs-length}
+use Rattle.store_record.proofs.Headed.{headed-count, headed-runs, headed-length}
 use Rattle.store_record.proofs.Order.{order-others, order-end, order-more, order-packed, number-others, number-more, number-packed, out, packed-held, packed-length, packed-end, fewer, others-most, and-both}
 use Rattle.store_map.specs.Map.{Entry, entry, without}
 use Rattle.store_map.specs.Store.{Store, storeOf, right, Space, space, stored, dropped, entries, mapOf}
@@ -41,18 +42,16 @@ passed size r e =
     }
 
 pub recorded-runs : (rs : List Run) (r : List ℕ) → runsOf (recorded rs r) ≡ rs
-unfolding runsOf recorded placed
-recorded-runs rs r = read-back (length rs) rs (drop (0 + suc (length (flat rs))) r)
+unfolding runsOf recorded
+recorded-runs rs r = rw (headed-count (length rs) rs r) (headed-runs (length rs) rs r)
 
 recorded-count : (rs : List Run) (r : List ℕ) → getD (recorded rs r) 0 0 ≡ length rs
-unfolding recorded placed
-recorded-count rs r = refl
-
-pub recorded-length : (rs : List Run) (r : List ℕ) → length r ≡ 3073 → length rs ≤ 1024 → length (recorded rs r) ≡ 3073
 unfolding recorded
-recorded-length rs r l h =
-    let f = flat-length rs in
-    placed-length 0 (length rs ∷ flat rs) r (omega arith) ∙ l
+recorded-count rs r = headed-count (length rs) rs r
+
+recorded-length : (rs : List Run) (r : List ℕ) → length r ≡ 3073 → length rs ≤ 1024 → length (recorded rs r) ≡ 3073
+unfolding recorded
+recorded-length rs r l h = headed-length (length rs) rs r (omega arith) ∙ l
 
 recorded-right : (size : ℕ) (rs : List Run) (r : List ℕ) → length r ≡ 3073 → length rs ≤ 1024 → inOrder 0 size rs ≡ true → numbered 1024 rs ≡ true → validRecord size (recorded rs r) ≡ true
 unfolding validRecord validRuns
@@ -81,16 +80,16 @@ module _ (s : Store) (ok : right s ≡ true) (k : ℕ) where
 
 -- ---- place for n tokens
 
-record Spaced (k : ℕ) (room : List ℕ) (rs : List Run) (n : ℕ) (sp : Space) : Type 0 where
-  size : length (sp .room) ≡ length room
-  order : inOrder 0 (length room) (sp .runs) ≡ true
-  behind : endOf 0 (sp .runs) ≤ sp .at
-  fits : sp .at + n ≤ length room
-  numbers : numbered 1024 (sp .runs) ≡ true
-  free : holds k (sp .runs) ≡ false
-  tokens : entries (sp .room) (sp .runs) ≡ entries room rs
+pub record Spaced (k : ℕ) (room : List ℕ) (rs : List Run) (n : ℕ) (sp : Space) : Type 0 where
+  pub size : length (sp .room) ≡ length room
+  pub order : inOrder 0 (length room) (sp .runs) ≡ true
+  pub behind : endOf 0 (sp .runs) ≤ sp .at
+  pub fits : sp .at + n ≤ length room
+  pub numbers : numbered 1024 (sp .runs) ≡ true
+  pub free : holds k (sp .runs) ≡ false
+  pub tokens : entries (sp .room) (sp .runs) ≡ entries room rs
 
-spaced : (k : ℕ) (room : List ℕ) (rs : List Run) (n : ℕ) → inOrder 0 (length room) rs ≡ true → numbered 1024 rs ≡ true → holds k rs ≡ false → live rs + n ≤ length room → Spaced k room rs n (space room rs n)
+pub spaced : (k : ℕ) (room : List ℕ) (rs : List Run) (n : ℕ) → inOrder 0 (length room) rs ≡ true → numbered 1024 rs ≡ true → holds k rs ≡ false → live rs + n ≤ length room → Spaced k room rs n (space room rs n)
 unfolding space placed
 spaced k room rs n o m f h = go (leb (endOf 0 rs + n) (length room)) refl
   where

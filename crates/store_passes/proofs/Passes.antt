@@ -9,9 +9,10 @@ use borrow.Author.Tests.{eq-eqb, ne-eqb, eqb-true, eqb-false}
 use lib.Dec.{eqb}
 use lib.ListN.{length, getD, set, length-append}
 use Rattle.store_record.specs.Placed.{placed}
-use Rattle.store_record.specs.Runs.{Run, run, runAt, runsFrom, flat, headed, holds, others, runUnder, live, endOf}
-use Rattle.store_record.proofs.Placed.{placed-none, placed-past, placed-length, placed-placed, three-placed}
-use Rattle.store_record.proofs.Runs.{runs-none, runs-next, runs-more, runs-length, flat-length, flat-append, flat-one}
+use Rattle.store_record.specs.Runs.{Run, run, runAt, runsFrom, headed, holds, others, runUnder, live, endOf}
+use Rattle.store_record.proofs.Placed.{three-placed}
+use Rattle.store_record.proofs.Headed.{headed-none, headed-past, headed-more}
+use Rattle.store_record.proofs.Runs.{runs-none, runs-next, runs-more, runs-length}
 use Rattle.store_record.proofs.Order.{others-most}
 use Rattle.store_passes.specs.Found.{Found, Removed}
 
@@ -126,13 +127,8 @@ pub record Removing (k : ℕ) (r : List ℕ) (n i : ℕ) (rec : List ℕ) (kept 
   pub count : kept ≡ length (others k (runsFrom r 0 i))
   pub runs : rec ≡ headed (getD r 0 0) (others k (runsFrom r 0 i)) r
 
-headed-none : (r : List ℕ) → 0 < length r → placed 0 (getD r 0 0 ∷ []) r ≡ r
-unfolding placed
-headed-none [] h = absurd (not-suc-le-zero h)
-headed-none (x ∷ xs) h = refl
-
 pub remove-start : (k : ℕ) (r : List ℕ) (n : ℕ) → length r ≡ 3073 → Removing k r n 0 r 0
-unfolding others runsFrom flat
+unfolding others runsFrom
 remove-start k r n long = record { within = omega arith; count = refl; runs = sym (headed-none r (omega arith)) }
 
 module _ (k : ℕ) (r : List ℕ) (n i : ℕ) (rec : List ℕ) (kept : ℕ) (s : Removing k r n i rec kept) (long : length r ≡ 3073) (few : n ≤ 1024) where
@@ -143,33 +139,15 @@ module _ (k : ℕ) (r : List ℕ) (n i : ℕ) (rec : List ℕ) (kept : ℕ) (s :
       let e = s .count in
       omega arith
 
-  front : List ℕ
-  front = getD r 0 0 ∷ flat (others k (runsFrom r 0 i))
-
-  front-length : length front ≡ 3 * kept + 1
-  unfolding front
-  front-length =
-      let e = s .count in
-      let f = flat-length (others k (runsFrom r 0 i)) in
-      omega arith
-
-  front-fits : 0 + length front ≤ length r
-  front-fits = let f = front-length in let w = s .within in omega (arith, kept-few)
-
-  same : rec ≡ placed 0 front r
-  unfolding front
-  same = s .runs
+  front-fits : 3 * length (others k (runsFrom r 0 i)) + 1 ≤ length r
+  front-fits = let e = s .count in let w = s .within in omega (arith, kept-few)
 
   -- what stands ahead is as it was
-  pub ahead : (j : ℕ) → 3 * i + 1 ≤ j → getD rec j 0 ≡ getD r j 0
-  ahead j h = rw same (placed-past 0 front r front-fits j (let f = front-length in omega (arith, kept-few)))
-
-  pub remove-long : length rec ≡ length r
-  remove-long = rw same (placed-length 0 front r front-fits)
+  ahead : (j : ℕ) → 3 * i + 1 ≤ j → getD rec j 0 ≡ getD r j 0
+  ahead j h = rw (s .runs) (headed-past (getD r 0 0) (others k (runsFrom r 0 i)) r front-fits j (let e = s .count in omega (arith, kept-few)))
 
   pub remove-next : {rec' : List ℕ} {kept' a b d : ℕ} → i < n → a ≡ getD rec (3 * i + 1) 0 → b ≡ getD rec (3 * i + 2) 0 → d ≡ getD rec (3 * i + 3) 0
       → kept' ≡ cond (eqb k a) kept (kept + 1) → rec' ≡ cond (eqb k a) rec (placed (3 * kept + 1) (a ∷ b ∷ d ∷ []) rec) → Removing k r n (i + 1) rec' kept'
-  unfolding front
   remove-next {rec'} {kept'} {a} {b} {d} h ea eb ed ek er =
       let fa : a ≡ getD r (3 * i + 1) 0 = ea ∙ ahead (3 * i + 1) (omega arith) in
       let fb : b ≡ getD r (3 * i + 2) 0 = eb ∙ ahead (3 * i + 2) (omega arith) in
@@ -184,18 +162,15 @@ module _ (k : ℕ) (r : List ℕ) (n i : ℕ) (rec : List ℕ) (kept : ℕ) (s :
           → Removing k r n (i + 1) rec' kept'
       go true more ek er = record { within = omega arith; count = ek ∙ s .count ∙ ap length (sym more); runs = er ∙ s .runs ∙ ap (λ (l : List Run). headed (getD r 0 0) l r) (sym more) }
       go false more ek er =
-          let long' = front-length in
-          let zeroed : 3 * kept + 1 ≡ 0 + length front = omega arith in
-          let three = flat-one (runAt r i) in
           let l : length (others k (runsFrom r 0 i) ++ (runAt r i ∷ [])) ≡ length (others k (runsFrom r 0 i)) + 1 = length-append (others k (runsFrom r 0 i)) (runAt r i ∷ []) in
           record {
             within = omega arith;
             count = ek ∙ ap (λ (j : ℕ). j + 1) (s .count) ∙ sym l ∙ ap length (sym more);
             runs =
             er
-            ∙ ap₂ (λ (j : ℕ) (l : List ℕ). placed j (getD r (3 * i + 1) 0 ∷ getD r (3 * i + 2) 0 ∷ getD r (3 * i + 3) 0 ∷ []) l) zeroed same
-            ∙ placed-placed 0 front r front-fits (getD r (3 * i + 1) 0 ∷ getD r (3 * i + 2) 0 ∷ getD r (3 * i + 3) 0 ∷ [])
-            ∙ ap (λ (l : List ℕ). placed 0 (getD r 0 0 ∷ l) r) (ap (λ (l : List ℕ). flat (others k (runsFrom r 0 i)) ++ l) (sym three) ∙ sym (flat-append (others k (runsFrom r 0 i)) (runAt r i ∷ [])) ∙ ap flat (sym more));
+            ∙ ap₂ (λ (j : ℕ) (l : List ℕ). placed (3 * j + 1) (getD r (3 * i + 1) 0 ∷ getD r (3 * i + 2) 0 ∷ getD r (3 * i + 3) 0 ∷ []) l) (s .count) (s .runs)
+            ∙ headed-more (getD r 0 0) (others k (runsFrom r 0 i)) r front-fits (getD r (3 * i + 1) 0) (getD r (3 * i + 2) 0) (getD r (3 * i + 3) 0)
+            ∙ ap (λ (l : List Run). headed (getD r 0 0) l r) (sym more);
           }
 
 pub remove-end : (k : ℕ) (r : List ℕ) (n i : ℕ) (rec : List ℕ) (kept : ℕ) → Removing k r n i rec kept → n ≤ i → Removed k r n rec kept

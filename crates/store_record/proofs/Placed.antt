@@ -65,6 +65,14 @@ module _ (at : ℕ) (ys zs : List ℕ) (fits : at + length ys ≤ length zs) whe
       (sym (append-assoc ys ws (drop (at + length ys + length ws) zs))
       ∙ ap (λ (k : ℕ). (ys ++ ws) ++ drop k zs) e)
 
+  -- as many in its place
+  pub placed-over : (ws : List ℕ) → length ws ≡ length ys → placed at ws (placed at ys zs) ≡ placed at ws zs
+  unfolding placed front
+  placed-over ws e =
+      ap₂ (λ (a b : List ℕ). a ++ (ws ++ b))
+      (take-at (take at zs) (ys ++ drop (at + length ys) zs) at (length-take-le at zs (omega arith)))
+      (placed-rest (at + length ws) (omega arith))
+
   -- one number more
   pub placed-set : (v : ℕ) → at + length ys < length zs → set (placed at ys zs) (at + length ys) v ≡ placed at (ys ++ (v ∷ [])) zs
   unfolding placed front

@@ -8,10 +8,11 @@ use native.Mathlib.Nat.{not-suc-le-zero, le-antisymm}
 use lib.ListN.{length, getD, take, drop, set, length-append, length-drop}
 use lib.Seq.{length-take-le}
 use Rattle.store_record.specs.Placed.{placed}
-use Rattle.store_record.specs.Runs.{Run, run, runAt, runsFrom, flat, headed, inOrder, live, packed}
+use Rattle.store_record.specs.Runs.{Run, run, runAt, runsFrom, headed, inOrder, live, packed}
 use Rattle.store_record.specs.Tokens.{tokensOf, joined}
 use Rattle.store_record.proofs.Placed.{placed-none, placed-past, placed-rest, placed-length, placed-placed, copied-more}
-use Rattle.store_record.proofs.Runs.{runs-none, runs-next, runs-more, runs-length, flat-length, flat-append, flat-one}
+use Rattle.store_record.proofs.Runs.{runs-none, runs-next, runs-more, runs-length}
+use Rattle.store_record.proofs.Headed.{headed-none, headed-length, headed-past, headed-more}
 use Rattle.store_record.proofs.Order.{order-head, order-lower, packed-length}
 use Rattle.store_room.specs.Compacted.{Compacted}
 
@@ -55,13 +56,8 @@ pub record Packing (room₀ r : List ℕ) (n i : ℕ) (room rec : List ℕ) (top
   pub runs : rec ≡ headed (getD r 0 0) (packed 0 (runsFrom r 0 i)) r
   pub later : inOrder top (length room₀) (runsFrom r i (n - i)) ≡ true
 
-headed-none : (r : List ℕ) → 0 < length r → placed 0 (getD r 0 0 ∷ []) r ≡ r
-unfolding placed
-headed-none [] h = absurd (not-suc-le-zero h)
-headed-none (x ∷ xs) h = refl
-
 pub pack-start : (room r : List ℕ) (n : ℕ) → length r ≡ 3073 → inOrder 0 (length room) (runsFrom r 0 n) ≡ true → Packing room r n 0 room r 0
-unfolding live joined packed runsFrom flat
+unfolding live joined packed runsFrom
 pack-start room r n l o =
     let e : n - 0 ≡ n = omega arith in
     record {
@@ -75,38 +71,28 @@ pack-start room r n l o =
     }
 
 module _ (room₀ r : List ℕ) (n i : ℕ) (room rec : List ℕ) (top : ℕ) (s : Packing room₀ r n i room rec top) (l : length r ≡ 3073) (few : n ≤ 1024) where
-  front : List ℕ
-  front = getD r 0 0 ∷ flat (packed 0 (runsFrom r 0 i))
+  first : List Run
+  first = packed 0 (runsFrom r 0 i)
 
-  front-length : length front ≡ 3 * i + 1
-  unfolding front
-  front-length =
-      let a = flat-length (packed 0 (runsFrom r 0 i)) in
-      let b = packed-length 0 (runsFrom r 0 i) in
-      let d = runs-length r 0 i in
-      omega arith
+  first-length : length first ≡ i
+  unfolding first
+  first-length = packed-length 0 (runsFrom r 0 i) ∙ runs-length r 0 i
 
-  front-fits : 0 + length front ≤ length r
-  front-fits = let f = front-length in let w = s .within in omega arith
+  front-fits : 3 * length first + 1 ≤ length r
+  front-fits = let f = first-length in let w = s .within in omega arith
 
-  same : rec ≡ placed 0 front r
-  unfolding front
+  same : rec ≡ headed (getD r 0 0) first r
+  unfolding first
   same = s .runs
-
-  front-more : (a b d : ℕ) → placed 0 (front ++ (a ∷ b ∷ d ∷ [])) r ≡ headed (getD r 0 0) (packed 0 (runsFrom r 0 i) ++ (run a b d ∷ [])) r
-  unfolding front
-  front-more a b d =
-      ap (λ (l : List ℕ). placed 0 (getD r 0 0 ∷ l) r)
-      (ap (λ (l : List ℕ). flat (packed 0 (runsFrom r 0 i)) ++ l) (sym (flat-one (run a b d))) ∙ sym (flat-append (packed 0 (runsFrom r 0 i)) (run a b d ∷ [])))
 
   room-fits : 0 + length (joined room₀ (runsFrom r 0 i)) ≤ length room₀
   room-fits = let a = s .long in let b = s .low in omega arith
 
   pub pack-long : (length room ≡ length room₀) × (length rec ≡ 3073)
-  pack-long = (rw (s .tokens) (placed-length 0 (joined room₀ (runsFrom r 0 i)) room₀ room-fits), rw same (placed-length 0 front r front-fits ∙ l))
+  pack-long = (rw (s .tokens) (placed-length 0 (joined room₀ (runsFrom r 0 i)) room₀ room-fits), rw same (headed-length (getD r 0 0) first r front-fits ∙ l))
 
   ahead : (j : ℕ) → 3 * i + 1 ≤ j → getD rec j 0 ≡ getD r j 0
-  ahead j h = rw same (placed-past 0 front r front-fits j (let f = front-length in omega arith))
+  ahead j h = rw same (headed-past (getD r 0 0) first r front-fits j (let f = first-length in omega arith))
 
   module _ (h : i < n) where
     head : (top ≤ getD r (3 * i + 2) 0) × ((getD r (3 * i + 2) 0 + getD r (3 * i + 3) 0 ≤ length room₀) × (inOrder (getD r (3 * i + 2) 0 + getD r (3 * i + 3) 0) (length room₀) (runsFrom r (i + 1) (n - (i + 1))) ≡ true))
@@ -127,7 +113,7 @@ module _ (room₀ r : List ℕ) (n i : ℕ) (room rec : List ℕ) (top : ℕ) (s
         → room' ≡ placed top (take (getD rec (3 * i + 3) 0) (drop (getD rec (3 * i + 2) 0) room)) room
         → rec' ≡ placed (3 * i + 1) (getD rec (3 * i + 1) 0 ∷ top ∷ getD rec (3 * i + 3) 0 ∷ []) rec
         → Packing room₀ r n (i + 1) room' rec' (top + getD rec (3 * i + 3) 0)
-    unfolding tokensOf
+    unfolding tokensOf first
     pack-next {room'} {rec'} et er =
         let a = ahead (3 * i + 1) (omega arith) in
         let b = ahead (3 * i + 2) (omega arith) in
@@ -148,8 +134,6 @@ module _ (room₀ r : List ℕ) (n i : ℕ) (room rec : List ℕ) (top : ℕ) (s
         let sz = getD r (3 * i + 3) 0 in
         let e = s .end in
         let at-top : 0 + live (runsFrom r 0 i) ≡ top = omega arith in
-        let front' = front-length in
-        let zeroed : 3 * i + 1 ≡ 0 + length front = omega arith in
         let packed' : packed 0 (runsFrom r 0 (i + 1)) ≡ packed 0 (runsFrom r 0 i) ++ (run num top sz ∷ []) =
             ap (packed 0) (runs-more r i) ∙ packed-more 0 (runsFrom r 0 i) (runAt r i) ∙ ap (λ (k : ℕ). packed 0 (runsFrom r 0 i) ++ (run num k sz ∷ [])) at-top in
         let long' = s .long in
@@ -170,9 +154,8 @@ module _ (room₀ r : List ℕ) (n i : ℕ) (room rec : List ℕ) (top : ℕ) (s
           runs =
           er
           ∙ ap₂ (λ (j k : ℕ). placed (3 * i + 1) (j ∷ top ∷ k ∷ []) rec) a d
-          ∙ ap₂ (λ (j : ℕ) (l : List ℕ). placed j (num ∷ top ∷ sz ∷ []) l) zeroed same
-          ∙ placed-placed 0 front r front-fits (num ∷ top ∷ sz ∷ [])
-          ∙ front-more num top sz
+          ∙ ap₂ (λ (j : ℕ) (l : List ℕ). placed (3 * j + 1) (num ∷ top ∷ sz ∷ []) l) (sym first-length) same
+          ∙ headed-more (getD r 0 0) first r front-fits num top sz
           ∙ ap (λ (l : List Run). headed (getD r 0 0) l r) (sym packed');
           later = order-lower (start + sz) (top + getD rec (3 * i + 3) 0) (length room₀) (runsFrom r (i + 1) (n - (i + 1))) (omega arith) (head .1 .1);
         }

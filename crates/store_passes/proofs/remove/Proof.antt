@@ -3,7 +3,7 @@ use mathlib.Core.Path.{_≡_, refl, sym, ap, _∙_}
 use native.Mathlib.Omega.{arith}
 use lib.ListN.{length, getD, length-set}
 use denote.Ref.{now}
-use Rattle.store_passes.proofs.Passes.{Removing, remove-start, remove-next, remove-end, remove-long, kept-few}
+use Rattle.store_passes.proofs.Passes.{Removing, remove-start, remove-next, remove-end, kept-few}
 use borrow.Author.Needs.{needs}
 use Rattle.store_passes.proofs.remove.Statement.{statement}
 use Rattle.store_passes.proofs.remove.Tie as tie
