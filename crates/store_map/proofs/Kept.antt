@@ -195,7 +195,7 @@ module _ (s : Store) (k : ℕ) (buffer : List ℕ) where
   looked = sym (entries-lookup k (s .room) (runsOf (s .rec)))
 
   -- read answers: the number of a refusal, or the tokens
-  pub readReply : Reply
+  unfoldable pub readReply : Reply
   readReply = cond (eqb (readRefusal s k (length buffer)) 0) (reply 0 (tokensOf (s .room) (runIn s k))) (reply (readRefusal s k (length buffer)) [])
 
   read-answered : right s ≡ true → readReply ≡ replyOn (length (s .room)) (mapOf s) (Map.read k (length buffer))
