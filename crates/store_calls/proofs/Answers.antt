@@ -64,23 +64,23 @@ module _ (s : Store) (k : ℕ) (ts : List ℕ) where
   put-33 ok h = put-refused 32 (rw (ok, le-ltb k 1024 h))
 
   module _ (ok : right s ≡ true) (h : k < 1024) (v : ℕ) (others' : v ≡ live (others k (runsFrom (s .rec) 0 (getD (s .rec) 0 0)))) where
-   pub put-34 : length (s .room) - v < length ts → Put s k ts 34 s
-   unfolding putRefusal runsOf
-   put-34 f = put-refused 33 (rw (ok, lt-ltb k 1024 h, lt-leb (live (others k (runsFrom (s .rec) 0 (getD (s .rec) 0 0))) + length ts) (length (s .room)) (omega arith)))
+    pub put-34 : length (s .room) - v < length ts → Put s k ts 34 s
+    unfolding putRefusal runsOf
+    put-34 f = put-refused 33 (rw (ok, lt-ltb k 1024 h, lt-leb (live (others k (runsFrom (s .rec) 0 (getD (s .rec) 0 0))) + length ts) (length (s .room)) (omega arith)))
 
-   pub hold-asks : length ts ≤ length (s .room) - v → (right s ≡ true) × ((k < 1024) × (live (others k (runsOf (s .rec))) + length ts ≤ length (s .room)))
-   unfolding runsOf
-   hold-asks f = let w = others-within (s .room) (s .rec) ok k in (ok, (h, omega arith))
+    pub hold-asks : length ts ≤ length (s .room) - v → (right s ≡ true) × ((k < 1024) × (live (others k (runsOf (s .rec))) + length ts ≤ length (s .room)))
+    unfolding runsOf
+    hold-asks f = let w = others-within (s .room) (s .rec) ok k in (ok, (h, omega arith))
 
-   pub put-0 : {t : Store} → length ts ≤ length (s .room) - v → t ≡ stored s k ts → Put s k ts 0 t
-   unfolding putRefusal putOutcome
-   put-0 {t} l e =
-      let f = hold-asks l .1 .1 in
-      let z : putRefusal s k ts ≡ 0 = rw (ok, lt-ltb k 1024 h, le-leb (live (others k (runsOf (s .rec))) + length ts) (length (s .room)) f) in
-      put-settles (sym z) (e ∙ settled z)
-     where
-      settled : putRefusal s k ts ≡ 0 → stored s k ts ≡ cond (eqb (putRefusal s k ts) 0) (stored s k ts) s
-      settled z = rw (eq-eqb (putRefusal s k ts) 0 z)
+    pub put-0 : {t : Store} → length ts ≤ length (s .room) - v → t ≡ stored s k ts → Put s k ts 0 t
+    unfolding putRefusal putOutcome
+    put-0 {t} l e =
+        let f = hold-asks l .1 .1 in
+        let z : putRefusal s k ts ≡ 0 = rw (ok, lt-ltb k 1024 h, le-leb (live (others k (runsOf (s .rec))) + length ts) (length (s .room)) f) in
+        put-settles (sym z) (e ∙ settled z)
+      where
+        settled : putRefusal s k ts ≡ 0 → stored s k ts ≡ cond (eqb (putRefusal s k ts) 0) (stored s k ts) s
+        settled z = rw (eq-eqb (putRefusal s k ts) 0 z)
 
 -- ---- drop
 
@@ -113,7 +113,7 @@ module _ (s : Store) (k : ℕ) where
         let z : dropRefusal s k ≡ 0 = rw (ok, lt-ltb k 1024 h, found .there (omega arith) .0) in
         let rest = others k (runsFrom (s .rec) 0 (getD (s .rec) 0 0)) in
         let e : set r1 0 left ≡ headed (length rest) rest (s .rec) =
-            ap₂ (λ (l : List ℕ) (n : ℕ). set l 0 n) (removed .runs) (removed .count) ∙ headed-set (getD (s .rec) 0 0) (length rest) rest (s .rec) in
+        ap₂ (λ (l : List ℕ) (n : ℕ). set l 0 n) (removed .runs) (removed .count) ∙ headed-set (getD (s .rec) 0 0) (length rest) rest (s .rec) in
         drop-settles (sym z) (ap (storeOf (s .room)) e ∙ settled z)
       where
         settled : dropRefusal s k ≡ 0 → dropped s k ≡ cond (eqb (dropRefusal s k) 0) (dropped s k) s
@@ -173,7 +173,7 @@ module _ (s : Store) (k : ℕ) (buffer : List ℕ) where
           let passed' : readRefusal s k (length buffer) ≡ 0 = rw (ok, lt-ltb k 1024 h, held, le-leb (runIn s k .size) (length buffer) (omega arith)) in
           let same : after ≡ readTokens s k buffer = e ∙ sym (rw (eq-eqb (readRefusal s k (length buffer)) 0 passed', found-size, found-start)) in
           let read' : reply 0 (take (getD (s .rec) (3 * i + 3) 0) after) ≡ readReply s k buffer =
-              ap₂ (λ (n : ℕ) (l : List ℕ). reply 0 (take n l)) (sym found-size) same ∙ ap (reply 0) (read-back s k buffer passed') ∙ sym (rw (eq-eqb (readRefusal s k (length buffer)) 0 passed')) in
+          ap₂ (λ (n : ℕ) (l : List ℕ). reply 0 (take n l)) (sym found-size) same ∙ ap (reply 0) (read-back s k buffer passed') ∙ sym (rw (eq-eqb (readRefusal s k (length buffer)) 0 passed')) in
           record {
             settled = rw (passed', found-size);
             tokens = same;

@@ -5,9 +5,13 @@ ghost use Rattle.store_calls.specs.Calls.{Put, Dropped, Read};
 
 // The refusals: a record that is not a store's, a block number that is not below 1,024, too many live tokens, a number that is not held, a buffer that is too short.
 pub const NO_STORE: u32 = 37;
+
 pub const NUMBER: u32 = 33;
+
 pub const FULL: u32 = 34;
+
 pub const NOT_HELD: u32 = 35;
+
 pub const SHORT: u32 = 36;
 
 // The length of a run, or the number of the refusal.

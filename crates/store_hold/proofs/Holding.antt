@@ -104,12 +104,12 @@ module _ (room r : List ℕ) (k : ℕ) (ts : List ℕ) (ok : right (storeOf room
                 room' = rw e (t .tokens ∙ ap (λ (l : List Run). placed 0 (joined room l) room) runs1);
                 place = rw e (t .end ∙ ap live runs1);
                 runs =
-                rw e
-                (t .runs
-                ∙ ap (λ (l : List Run). headed (getD r1 0 0) (packed 0 l) r1) runs1
-                ∙ ap (λ (l : List ℕ). headed (getD l 0 0) (packed 0 rest) l) first
-                ∙ ap (λ (n : ℕ). headed n (packed 0 rest) (headed (getD r 0 0) rest r)) (headed-count (getD r 0 0) rest r)
-                ∙ headed-over (getD r 0 0) rest r fits (getD r 0 0) (packed 0 rest) (packed-length 0 rest));
+                    rw e
+                    (t .runs
+                    ∙ ap (λ (l : List Run). headed (getD r1 0 0) (packed 0 l) r1) runs1
+                    ∙ ap (λ (l : List ℕ). headed (getD l 0 0) (packed 0 rest) l) first
+                    ∙ ap (λ (n : ℕ). headed n (packed 0 rest) (headed (getD r 0 0) rest r)) (headed-count (getD r 0 0) rest r)
+                    ∙ headed-over (getD r 0 0) rest r fits (getD r 0 0) (packed 0 rest) (packed-length 0 rest));
               }
 
       pub copy-asks : (0 + length ts ≤ length ts) × (at + length ts ≤ length room1)

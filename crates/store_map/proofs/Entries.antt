@@ -98,7 +98,7 @@ entries-packed end p q room (x ∷ xs) o =
     let size = tokens-length room x (t .1 .0) in
     let T = tokensOf room x in
     let assoc : p ++ ((T ++ joined room xs) ++ q) ≡ (p ++ T) ++ (joined room xs ++ q) =
-        ap (λ (l : List ℕ). p ++ l) (append-assoc T (joined room xs) q) ∙ sym (append-assoc p T (joined room xs ++ q)) in
+    ap (λ (l : List ℕ). p ++ l) (append-assoc T (joined room xs) q) ∙ sym (append-assoc p T (joined room xs ++ q)) in
     let long : length (p ++ T) ≡ length p + x .size = length-append p T ∙ ap (λ (k : ℕ). length p + k) size in
     ap₂ (λ (a : List ℕ) (l : List Entry). entry (x .number) a ∷ l)
     (here p T (joined room xs) q (x .size) size)

@@ -32,7 +32,7 @@ unfolding putRefusal refusalOn mapOf
 put-refusal s ok k ts =
     let p = passed (length (s .room)) (s .rec) ok in
     let t : total (without k (entries (s .room) (runsOf (s .rec)))) ≡ live (others k (runsOf (s .rec))) =
-        ap total (sym (entries-others k (s .room) (runsOf (s .rec)))) ∙ entries-total 0 (s .room) (others k (runsOf (s .rec))) (order-others k 0 (length (s .room)) (runsOf (s .rec)) (p .order)) in
+    ap total (sym (entries-others k (s .room) (runsOf (s .rec)))) ∙ entries-total 0 (s .room) (others k (runsOf (s .rec))) (order-others k 0 (length (s .room)) (runsOf (s .rec)) (p .order)) in
     rw (ok, t)
 
 drop-refusal : (s : Store) → right s ≡ true → (k : ℕ) → dropRefusal s k ≡ refusalOn (length (s .room)) (mapOf s) (Map.drop k)
@@ -48,7 +48,7 @@ read-refusal : (s : Store) → right s ≡ true → (k room : ℕ) → readRefus
 unfolding readRefusal refusalOn mapOf runIn
 read-refusal s ok k room =
     let l : length (lookup k (entries (s .room) (runsOf (s .rec)))) ≡ runUnder k (runsOf (s .rec)) .size =
-        ap length (entries-lookup k (s .room) (runsOf (s .rec))) ∙ read-length s ok k in
+    ap length (entries-lookup k (s .room) (runsOf (s .rec))) ∙ read-length s ok k in
     rw (ok, entries-held k (s .room) (runsOf (s .rec)), l)
 
 -- ---- a call that changes the store: refused, it stays; else it is what the call makes of it
@@ -64,7 +64,6 @@ module _ (s made : Store) (c : Call) (r : ℕ) (nothing : (m : List Entry) → g
     (right' : right s ≡ true → r ≡ 0 → right made ≡ true)
     (ok' : r ≡ 0 → right s ≡ true)
     (long : right s ≡ true → r ≡ 0 → length (made .room) ≡ length (s .room)) where
-
   result : Store
   result = cond (eqb r 0) made s
 

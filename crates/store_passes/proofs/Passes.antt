@@ -153,7 +153,7 @@ module _ (k : ℕ) (r : List ℕ) (n i : ℕ) (rec : List ℕ) (kept : ℕ) (s :
       let fb : b ≡ getD r (3 * i + 2) 0 = eb ∙ ahead (3 * i + 2) (omega arith) in
       let fd : d ≡ getD r (3 * i + 3) 0 = ed ∙ ahead (3 * i + 3) (omega arith) in
       let more : others k (runsFrom r 0 (i + 1)) ≡ cond (eqb k (getD r (3 * i + 1) 0)) (others k (runsFrom r 0 i)) (others k (runsFrom r 0 i) ++ (runAt r i ∷ [])) =
-          ap (others k) (runs-more r i) ∙ others-more k (runsFrom r 0 i) (runAt r i) in
+      ap (others k) (runs-more r i) ∙ others-more k (runsFrom r 0 i) (runAt r i) in
       go (eqb k (getD r (3 * i + 1) 0)) more (rw fa at ek) (rw (fa, fb, fd) at er)
     where
       go : (t : Bool) → others k (runsFrom r 0 (i + 1)) ≡ cond t (others k (runsFrom r 0 i)) (others k (runsFrom r 0 i) ++ (runAt r i ∷ []))
@@ -167,10 +167,10 @@ module _ (k : ℕ) (r : List ℕ) (n i : ℕ) (rec : List ℕ) (kept : ℕ) (s :
             within = omega arith;
             count = ek ∙ ap (λ (j : ℕ). j + 1) (s .count) ∙ sym l ∙ ap length (sym more);
             runs =
-            er
-            ∙ ap₂ (λ (j : ℕ) (l : List ℕ). placed (3 * j + 1) (getD r (3 * i + 1) 0 ∷ getD r (3 * i + 2) 0 ∷ getD r (3 * i + 3) 0 ∷ []) l) (s .count) (s .runs)
-            ∙ headed-more (getD r 0 0) (others k (runsFrom r 0 i)) r front-fits (getD r (3 * i + 1) 0) (getD r (3 * i + 2) 0) (getD r (3 * i + 3) 0)
-            ∙ ap (λ (l : List Run). headed (getD r 0 0) l r) (sym more);
+                er
+                ∙ ap₂ (λ (j : ℕ) (l : List ℕ). placed (3 * j + 1) (getD r (3 * i + 1) 0 ∷ getD r (3 * i + 2) 0 ∷ getD r (3 * i + 3) 0 ∷ []) l) (s .count) (s .runs)
+                ∙ headed-more (getD r 0 0) (others k (runsFrom r 0 i)) r front-fits (getD r (3 * i + 1) 0) (getD r (3 * i + 2) 0) (getD r (3 * i + 3) 0)
+                ∙ ap (λ (l : List Run). headed (getD r 0 0) l r) (sym more);
           }
 
 pub remove-end : (k : ℕ) (r : List ℕ) (n i : ℕ) (rec : List ℕ) (kept : ℕ) → Removing k r n i rec kept → n ≤ i → Removed k r n rec kept

@@ -69,9 +69,10 @@ module _ (marks : List ℕ) (k : ℕ) (low : k < length marks) where
       let rest = marked-before xs (and-right (eqb (getD (set marks k 1) (x .number) 0) 0) (unmarked (set marks k 1) xs) e) in
       either k (x .number)
       (λ q. absurd (one-zero (sym (getD-set-same marks k 1 0 low) ∙ rw (← q) at here)))
-      (λ d.
-        (rw (eq-eqb (getD marks (x .number) 0) 0 (sym (getD-set-other marks k (x .number) 1 0 (λ q. d (sym q))) ∙ here)) (rest .0),
-        rw (ne-eqb k (x .number) d) (rest .1)))
+      (λ d. (
+        rw (eq-eqb (getD marks (x .number) 0) 0 (sym (getD-set-other marks k (x .number) 1 0 (λ q. d (sym q))) ∙ here)) (rest .0),
+        rw (ne-eqb k (x .number) d) (rest .1),
+      ))
     where
       one-zero : _≡_ {A = ℕ} 1 0 → ⊥
       one-zero q = omega arith
@@ -97,10 +98,13 @@ passed end size marks (x ∷ xs) l e =
     let two = and-right (fits end size x) (new && after) e in
     let low = fits-number end size x fit in
     let rest = passed (x .start + x .size) size (set marks (x .number) 1) xs (length-set marks (x .number) 1 ∙ l) (and-right new after two) in
-    let mark = marked-before marks (x .number) (omega arith) xs (rest .1 .1) in
-    (rw (le-leb end (x .start) (fits-start end size x fit), le-leb (x .start + x .size) size (fits-end end size x fit)) (rest .0),
-    (rw (lt-ltb (x .number) 1024 low, mark .1) (rest .1 .0),
-    rw (and-left new after two) (mark .0)))
+    let mark = marked-before marks (x .number) (omega arith) xs (rest .1 .1) in (
+      rw (le-leb end (x .start) (fits-start end size x fit), le-leb (x .start + x .size) size (fits-end end size x fit)) (rest .0),
+      (
+        rw (lt-ltb (x .number) 1024 low, mark .1) (rest .1 .0),
+        rw (and-left new after two) (mark .0),
+      ),
+    )
 
 passing : (end size : ℕ) (marks : List ℕ) (xs : List Run) → length marks ≡ 1024 → inOrder end size xs ≡ true → numbered 1024 xs ≡ true → unmarked marks xs ≡ true
     → passes end size marks xs ≡ true
@@ -112,8 +116,8 @@ passing end size marks (x ∷ xs) l o n u =
     let new = and-left (eqb (getD marks (x .number) 0) 0) (unmarked marks xs) u in
     let low = number .0 in
     let rest =
-        passing (x .start + x .size) size (set marks (x .number) 1) xs (length-set marks (x .number) 1 ∙ l) (order .1 .1) (number .1 .1)
-        (marked-after marks (x .number) (omega arith) xs (and-right (eqb (getD marks (x .number) 0) 0) (unmarked marks xs) u) (number .1 .0)) in
+    passing (x .start + x .size) size (set marks (x .number) 1) xs (length-set marks (x .number) 1 ∙ l) (order .1 .1) (number .1 .1)
+    (marked-after marks (x .number) (omega arith) xs (and-right (eqb (getD marks (x .number) 0) 0) (unmarked marks xs) u) (number .1 .0)) in
     rw (lt-ltb (x .number) 1024 low, le-leb end (x .start) (order .0), le-leb (x .start + x .size) size (order .1 .0), new) rest
 
 none-marked : (n : ℕ) (xs : List Run) → unmarked (replicate n 0) xs ≡ true

@@ -31,19 +31,24 @@ either {C} a b same other = go (eqb a b) refl
 pub order-head : (end size : ℕ) (x : Run) (xs : List Run) → inOrder end size (x ∷ xs) ≡ true → (end ≤ x .start) × ((x .start + x .size ≤ size) × (inOrder (x .start + x .size) size xs ≡ true))
 unfolding inOrder
 order-head end size x xs e =
-    let two = and-left (leb end (x .start) && leb (x .start + x .size) size) (inOrder (x .start + x .size) size xs) e in
-    (leb-true _ _ (and-left (leb end (x .start)) (leb (x .start + x .size) size) two),
-    (leb-true _ _ (and-right (leb end (x .start)) (leb (x .start + x .size) size) two),
-    and-right (leb end (x .start) && leb (x .start + x .size) size) (inOrder (x .start + x .size) size xs) e))
+    let two = and-left (leb end (x .start) && leb (x .start + x .size) size) (inOrder (x .start + x .size) size xs) e in (
+      leb-true _ _ (and-left (leb end (x .start)) (leb (x .start + x .size) size) two),
+      (
+        leb-true _ _ (and-right (leb end (x .start)) (leb (x .start + x .size) size) two),
+        and-right (leb end (x .start) && leb (x .start + x .size) size) (inOrder (x .start + x .size) size xs) e,
+      ),
+    )
 
 pub number-head : (m : ℕ) (x : Run) (xs : List Run) → numbered m (x ∷ xs) ≡ true → (x .number < m) × ((holds (x .number) xs ≡ false) × (numbered m xs ≡ true))
 unfolding numbered
 number-head m x xs e =
-    let two = and-left (ltb (x .number) m && not (holds (x .number) xs)) (numbered m xs) e in
-    (ltb-true _ _ (and-left (ltb (x .number) m) (not (holds (x .number) xs)) two),
-    (not-true _ (and-right (ltb (x .number) m) (not (holds (x .number) xs)) two),
-    and-right (ltb (x .number) m && not (holds (x .number) xs)) (numbered m xs) e))
-
+    let two = and-left (ltb (x .number) m && not (holds (x .number) xs)) (numbered m xs) e in (
+      ltb-true _ _ (and-left (ltb (x .number) m) (not (holds (x .number) xs)) two),
+      (
+        not-true _ (and-right (ltb (x .number) m) (not (holds (x .number) xs)) two),
+        and-right (ltb (x .number) m && not (holds (x .number) xs)) (numbered m xs) e,
+      ),
+    )
 
 -- ---- order
 

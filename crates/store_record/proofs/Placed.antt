@@ -111,11 +111,11 @@ copied-more at start i from zs {to} a b e =
     let d : length (drop start from) ≡ length from - start = length-drop start from in
     let l : length (take i (drop start from)) ≡ i = length-take-le i (drop start from) (omega arith) in
     let s : set (placed at (take i (drop start from)) zs) (at + i) (getD from (start + i) 0) ≡ placed at (take i (drop start from) ++ (getD from (start + i) 0 ∷ [])) zs =
-        subst (λ (k : ℕ). set (placed at (take i (drop start from)) zs) (at + k) (getD from (start + i) 0) ≡ placed at (take i (drop start from) ++ (getD from (start + i) 0 ∷ [])) zs) l
-        (placed-set at (take i (drop start from)) zs (omega arith) (getD from (start + i) 0) (omega arith)) in
+    subst (λ (k : ℕ). set (placed at (take i (drop start from)) zs) (at + k) (getD from (start + i) 0) ≡ placed at (take i (drop start from) ++ (getD from (start + i) 0 ∷ [])) zs) l
+    (placed-set at (take i (drop start from)) zs (omega arith) (getD from (start + i) 0) (omega arith)) in
     let t : take (i + 1) (drop start from) ≡ take i (drop start from) ++ (getD from (start + i) 0 ∷ []) =
-        ap (λ (k : ℕ). take k (drop start from)) (add-one i) ∙ take-suc (drop start from) i 0 (omega arith)
-        ∙ ap (λ (v : ℕ). take i (drop start from) ++ (v ∷ [])) (getD-drop start from i 0) in
+    ap (λ (k : ℕ). take k (drop start from)) (add-one i) ∙ take-suc (drop start from) i 0 (omega arith)
+    ∙ ap (λ (v : ℕ). take i (drop start from) ++ (v ∷ [])) (getD-drop start from i 0) in
     rw (e, t) s
 
 -- three numbers, one by one
@@ -123,7 +123,7 @@ pub three-placed : (at a b d : ℕ) (zs : List ℕ) → at + 2 < length zs → s
 three-placed at a b d zs h =
     let zero' : at + 0 ≡ at = omega arith in
     let one : set zs at a ≡ placed at (a ∷ []) zs =
-        ap₂ (λ (l : List ℕ) (k : ℕ). set l k a) (sym (placed-none at zs)) (sym zero') ∙ placed-set at [] zs (omega arith) a (omega arith) in
+    ap₂ (λ (l : List ℕ) (k : ℕ). set l k a) (sym (placed-none at zs)) (sym zero') ∙ placed-set at [] zs (omega arith) a (omega arith) in
     let two : set (placed at (a ∷ []) zs) (at + 1) b ≡ placed at (a ∷ b ∷ []) zs = placed-set at (a ∷ []) zs (omega arith) b (omega arith) in
     let three : set (placed at (a ∷ b ∷ []) zs) (at + 2) d ≡ placed at (a ∷ b ∷ d ∷ []) zs = placed-set at (a ∷ b ∷ []) zs (omega arith) d (omega arith) in
     rw (one, two, three)

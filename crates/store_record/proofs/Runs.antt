@@ -71,6 +71,7 @@ later h a b d l i (suc n) =
   where
     ap₃ : {a b d a' b' d' : ℕ} → a ≡ a' → b ≡ b' → d ≡ d' → run a b d ≡ run a' b' d'
     ap₃ p q r = cc
+
     shifted : {j : ℕ} (k : ℕ) → j ≡ suc (suc (suc k)) → 1 ≤ k → getD (h ∷ a ∷ b ∷ d ∷ l) j 0 ≡ getD (h ∷ l) k 0
     shifted zero e o = absurd (not-suc-le-zero o)
     shifted (suc k) e o = rw e

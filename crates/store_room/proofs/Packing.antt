@@ -124,7 +124,7 @@ module _ (room₀ r : List ℕ) (n i : ℕ) (room rec : List ℕ) (top : ℕ) (s
         let size = length-drop (getD r (3 * i + 2) 0) room₀ in
         let taken : length (take (getD r (3 * i + 3) 0) (drop (getD r (3 * i + 2) 0) room₀)) ≡ getD r (3 * i + 3) 0 = length-take-le (getD r (3 * i + 3) 0) (drop (getD r (3 * i + 2) 0) room₀) (omega arith) in
         let more : joined room₀ (runsFrom r 0 (i + 1)) ≡ joined room₀ (runsFrom r 0 i) ++ tokensOf room₀ (runAt r i) =
-            ap (joined room₀) (runs-more r i) ∙ joined-more room₀ (runsFrom r 0 i) (runAt r i) in
+        ap (joined room₀) (runs-more r i) ∙ joined-more room₀ (runsFrom r 0 i) (runAt r i) in
         let live' : live (runsFrom r 0 (i + 1)) ≡ live (runsFrom r 0 i) + getD r (3 * i + 3) 0 = ap live (runs-more r i) ∙ live-more (runsFrom r 0 i) (runAt r i) in
         let zero' : 0 + length (joined room₀ (runsFrom r 0 i)) ≡ top = let j = s .long in omega arith in
         let longer = length-append (joined room₀ (runsFrom r 0 i)) (tokensOf room₀ (runAt r i)) in
@@ -135,7 +135,7 @@ module _ (room₀ r : List ℕ) (n i : ℕ) (room rec : List ℕ) (top : ℕ) (s
         let e = s .end in
         let at-top : 0 + live (runsFrom r 0 i) ≡ top = omega arith in
         let packed' : packed 0 (runsFrom r 0 (i + 1)) ≡ packed 0 (runsFrom r 0 i) ++ (run num top sz ∷ []) =
-            ap (packed 0) (runs-more r i) ∙ packed-more 0 (runsFrom r 0 i) (runAt r i) ∙ ap (λ (k : ℕ). packed 0 (runsFrom r 0 i) ++ (run num k sz ∷ [])) at-top in
+        ap (packed 0) (runs-more r i) ∙ packed-more 0 (runsFrom r 0 i) (runAt r i) ∙ ap (λ (k : ℕ). packed 0 (runsFrom r 0 i) ++ (run num k sz ∷ [])) at-top in
         let long' = s .long in
         let long'' = ap length more in
         record {
@@ -144,19 +144,19 @@ module _ (room₀ r : List ℕ) (n i : ℕ) (room rec : List ℕ) (top : ℕ) (s
           end = omega arith;
           long = omega arith;
           tokens =
-          et
-          ∙ ap₂ (λ (j k : ℕ). placed top (take j (drop k room)) room) d b
-          ∙ ap (λ (l : List ℕ). placed top (take sz (drop start l)) l) (s .tokens)
-          ∙ ap (λ (l : List ℕ). placed top (take sz l) (placed 0 J room₀)) (placed-rest 0 J room₀ room-fits start (omega arith))
-          ∙ ap (λ (k : ℕ). placed k (take sz (drop start room₀)) (placed 0 J room₀)) (sym zero')
-          ∙ placed-placed 0 J room₀ room-fits (take sz (drop start room₀))
-          ∙ ap (λ (l : List ℕ). placed 0 l room₀) (sym more);
+              et
+              ∙ ap₂ (λ (j k : ℕ). placed top (take j (drop k room)) room) d b
+              ∙ ap (λ (l : List ℕ). placed top (take sz (drop start l)) l) (s .tokens)
+              ∙ ap (λ (l : List ℕ). placed top (take sz l) (placed 0 J room₀)) (placed-rest 0 J room₀ room-fits start (omega arith))
+              ∙ ap (λ (k : ℕ). placed k (take sz (drop start room₀)) (placed 0 J room₀)) (sym zero')
+              ∙ placed-placed 0 J room₀ room-fits (take sz (drop start room₀))
+              ∙ ap (λ (l : List ℕ). placed 0 l room₀) (sym more);
           runs =
-          er
-          ∙ ap₂ (λ (j k : ℕ). placed (3 * i + 1) (j ∷ top ∷ k ∷ []) rec) a d
-          ∙ ap₂ (λ (j : ℕ) (l : List ℕ). placed (3 * j + 1) (num ∷ top ∷ sz ∷ []) l) (sym first-length) same
-          ∙ headed-more (getD r 0 0) first r front-fits num top sz
-          ∙ ap (λ (l : List Run). headed (getD r 0 0) l r) (sym packed');
+              er
+              ∙ ap₂ (λ (j k : ℕ). placed (3 * i + 1) (j ∷ top ∷ k ∷ []) rec) a d
+              ∙ ap₂ (λ (j : ℕ) (l : List ℕ). placed (3 * j + 1) (num ∷ top ∷ sz ∷ []) l) (sym first-length) same
+              ∙ headed-more (getD r 0 0) first r front-fits num top sz
+              ∙ ap (λ (l : List Run). headed (getD r 0 0) l r) (sym packed');
           later = order-lower (start + sz) (top + getD rec (3 * i + 3) 0) (length room₀) (runsFrom r (i + 1) (n - (i + 1))) (omega arith) (head .1 .1);
         }
 
