@@ -75,7 +75,7 @@ pub fn read(room: &[u64], rec: &[u64], block: u32, tokens: &mut [u64]) -> Length
         return Length::Refused(NOT_HELD);
     }
     let start = rec[3 * i + 2] as usize;
-    let size = rec[3 * i + 2] as usize;
+    let size = rec[3 * i + 3] as usize;
     if size > tokens.len() {
         return Length::Refused(SHORT);
     }
