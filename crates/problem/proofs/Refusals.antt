@@ -1,52 +1,65 @@
--- The number by which the checks refuse a search is at most 14; where it is 0, each of them passes. Assumes nothing.
+-- The number by which the checks refuse a search is neither of the searches' own, 15 and 16; where it is 0, each of them passes. Assumes nothing.
 use mathlib.Core.Path.{_≡_, refl, sym, _∙_}
-use mathlib.Core.Bool.{Bool, true, false, cond}
-use Prim.Native.Nat.{ℕ, suc, _≤_, zero-le}
+use mathlib.Core.Bool.{Bool, true, false, cond, not, _&&_}
+use Prim.Native.Nat.{ℕ, suc}
 use native.Mathlib.Omega.{arith}
-use borrow.Author.Tests.{eqb-true, eqb-false}
+use borrow.Author.Tests.{eqb-true, eqb-false, not-true}
 use lib.Dec.{eqb}
 use Rattle.block.specs.Block.{Block, covered}
 use Rattle.block.specs.Checks.{check7, check8, check9, check10, check11, check12, check13, blockRefusal, searchRefusal}
+use Rattle.laws.proofs.Tests.{and-left, and-right}
 use Rattle.prices.specs.Book.{Book}
 use Rattle.prices.specs.Checks.{check1, check2, check3, check4, check5, check6, firstTwo, firstFive, bookRefusal}
 use Rattle.weights.specs.Window.{windowOf}
 
-either-few : (t : Bool) {x y n : ℕ} → x ≤ n → y ≤ n → cond t x y ≤ n
-either-few true a b = a
-either-few false a b = b
+-- a number by which no search refuses once its checks have passed
+pub record NoOutcome (n : ℕ) : Type 0 where
+  pub not-15 : n ≡ 15 → ⊥
+  pub not-16 : n ≡ 16 → ⊥
+
+number : (n : ℕ) → not (eqb n 15) && not (eqb n 16) ≡ true → NoOutcome n
+number n e =
+    record {
+      not-15 = eqb-false n 15 (not-true (eqb n 15) (and-left (not (eqb n 15)) (not (eqb n 16)) e));
+      not-16 = eqb-false n 16 (not-true (eqb n 16) (and-right (not (eqb n 15)) (not (eqb n 16)) e));
+    }
+
+either : (t : Bool) {x y : ℕ} → NoOutcome x → NoOutcome y → NoOutcome (cond t x y)
+either true a b = a
+either false a b = b
 
 through : (t : Bool) (x n : ℕ) → cond t x (suc n) ≡ 0 → (t ≡ true) × (x ≡ 0)
 through true x n e = (refl, e)
 through false x n e = absurd (omega arith)
 
 module _ (book : Book) (b : Block) (room : Bool) where
-  book-few : bookRefusal book ≤ 14
+  book-number : NoOutcome (bookRefusal book)
   unfolding bookRefusal firstFive firstTwo
-  book-few =
-      either-few (check1 book)
-      (either-few (check2 book)
-      (either-few (check3 book) (either-few (check4 book) (either-few (check5 book) (either-few (check6 book) zero-le (omega arith)) (omega arith)) (omega arith)) (omega arith))
-      (omega arith))
-      (omega arith)
+  book-number =
+      either (check1 book)
+      (either (check2 book)
+      (either (check3 book) (either (check4 book) (either (check5 book) (either (check6 book) (number 0 refl) (number 6 refl)) (number 5 refl)) (number 4 refl)) (number 3 refl))
+      (number 2 refl))
+      (number 1 refl)
 
-  block-few : blockRefusal (windowOf (covered b)) b (cond room 0 14) ≤ 14
+  block-number : NoOutcome (blockRefusal (windowOf (covered b)) b (cond room 0 14))
   unfolding blockRefusal
-  block-few =
-      either-few (check7 b)
-      (either-few (check8 b)
-      (either-few (check9 b)
-      (either-few (check10 b)
-      (either-few (check11 b)
-      (either-few (check12 b) (either-few (check13 (windowOf (covered b)) b) (either-few room zero-le (omega arith)) (omega arith)) (omega arith))
-      (omega arith))
-      (omega arith))
-      (omega arith))
-      (omega arith))
-      (omega arith)
+  block-number =
+      either (check7 b)
+      (either (check8 b)
+      (either (check9 b)
+      (either (check10 b)
+      (either (check11 b)
+      (either (check12 b) (either (check13 (windowOf (covered b)) b) (either room (number 0 refl) (number 14 refl)) (number 13 refl)) (number 12 refl))
+      (number 11 refl))
+      (number 10 refl))
+      (number 9 refl))
+      (number 8 refl))
+      (number 7 refl)
 
-  pub search-few : searchRefusal book b room ≤ 14
+  pub search-number : NoOutcome (searchRefusal book b room)
   unfolding searchRefusal
-  search-few = either-few (eqb (bookRefusal book) 0) block-few book-few
+  search-number = either (eqb (bookRefusal book) 0) block-number book-number
 
   pub searched : searchRefusal book b room ≡ 0 → (bookRefusal book ≡ 0) × ((blockRefusal (windowOf (covered b)) b 0 ≡ 0) × (room ≡ true))
   unfolding searchRefusal blockRefusal

@@ -5,9 +5,10 @@ use block::Shape;
 use weights::Settings;
 ghost use mathlib.Core.Path.{_≡_};
 ghost use Rattle.block.specs.Block.{blockOf};
-ghost use Rattle.block.specs.Outcome.{RefusedKeeps, lentOf, resultOf};
+ghost use Rattle.block.specs.Outcome.{lentOf, resultOf};
 ghost use Rattle.prices.specs.Book.{bookOf};
-ghost use Rattle.searches.specs.Outcome.{beamResult, searchOutcome, wasSearched};
+ghost use Rattle.searches.specs.declared.Search.the-variants.{Beam};
+ghost use Rattle.searches.specs.Outcome.{Promised, wasSearched};
 
 // Which search.
 pub enum Search {
@@ -46,8 +47,11 @@ fn beam_with_rows(
     row_a: &mut [f32],
     row_b: &mut [f32],
 ) -> Answer
-    ensures { λ r. ⌜ resultOf r (now (levels .exit)) (now (choices .exit)) (now («row_a» .exit)) (now («row_b» .exit)) ≡ beamResult (bookOf clusters (now (map .entry)) (now (configs .entry)) (now (symbols .entry)) (now (ready .entry))) (blockOf shape settings bias scale (now (scan .entry)) (now (source .entry)) (now («inv_qm» .entry)) (now (levels .entry))) (lentOf (now (levels .entry)) (now (choices .entry)) (now («row_a» .entry)) (now («row_b» .entry))) ⌝ }
-    ensures { λ r. ⌜ RefusedKeeps (blockOf shape settings bias scale (now (scan .entry)) (now (source .entry)) (now («inv_qm» .entry)) (now (levels .entry))) (now (levels .exit)) r ⌝ }
+    ensures { λ r. ⌜ Promised Beam
+        (bookOf clusters (now (map .entry)) (now (configs .entry)) (now (symbols .entry)) (now (ready .entry)))
+        (blockOf shape settings bias scale (now (scan .entry)) (now (source .entry)) (now («inv_qm» .entry)) (now (levels .entry)))
+        (lentOf (now (levels .entry)) (now (choices .entry)) (now («row_a» .entry)) (now («row_b» .entry)))
+        (resultOf r (now (levels .exit)) (now (choices .exit)) (now («row_a» .exit)) (now («row_b» .exit))) ⌝ }
 {
     let answer = beam::rdoq_block_beam(
         clusters,
@@ -93,8 +97,11 @@ pub fn rdoq_block(
     row_a: &mut [f32],
     row_b: &mut [f32],
 ) -> Answer
-    ensures { λ r. ⌜ resultOf r (now (levels .exit)) (now (choices .exit)) (now («row_a» .exit)) (now («row_b» .exit)) ≡ searchOutcome search (bookOf clusters (now (map .entry)) (now (configs .entry)) (now (symbols .entry)) (now (ready .entry))) (blockOf shape settings bias scale (now (scan .entry)) (now (source .entry)) (now («inv_qm» .entry)) (now (levels .entry))) (lentOf (now (levels .entry)) (now (choices .entry)) (now («row_a» .entry)) (now («row_b» .entry))) ⌝ }
-    ensures { λ r. ⌜ RefusedKeeps (blockOf shape settings bias scale (now (scan .entry)) (now (source .entry)) (now («inv_qm» .entry)) (now (levels .entry))) (now (levels .exit)) r ⌝ }
+    ensures { λ r. ⌜ Promised search
+        (bookOf clusters (now (map .entry)) (now (configs .entry)) (now (symbols .entry)) (now (ready .entry)))
+        (blockOf shape settings bias scale (now (scan .entry)) (now (source .entry)) (now («inv_qm» .entry)) (now (levels .entry)))
+        (lentOf (now (levels .entry)) (now (choices .entry)) (now («row_a» .entry)) (now («row_b» .entry)))
+        (resultOf r (now (levels .exit)) (now (choices .exit)) (now («row_a» .exit)) (now («row_b» .exit))) ⌝ }
 {
     match search {
         Search::Greedy => greedy::rdoq_block_greedy(

@@ -1,5 +1,6 @@
 use mathlib.Core.Path.{refl, sym, _∙_}
 use Rattle.searches.proofs.Results.{beam-cleared, beam-left}
+use Rattle.searches.specs.Outcome.{searchOutcome, Demanded}
 use borrow.Author.Needs.{needs}
 use Rattle.searches.proofs.beam_with_rows.Statement.{statement}
 use Rattle.searches.proofs.beam_with_rows.Tie as tie
@@ -34,9 +35,10 @@ same-length-4 : tie.Need-same-length-4
 same-length-4 c = search needs
 
 returns : tie.Need-returns
+unfolding searchOutcome Demanded
 returns c =
     let beam = c .before .before .before .before .before .before .before .before .before .before .before .before .before .rdoq-block-beam .ensures in
-    (beam-cleared _ _ _ (beam .0) (sym (c .before .before .before .before .before .before .before .before .before .was-searched .ensures) ∙ c .before .before .before .before .before .before .before .before .if1 .taken) (c .before .before .before .before .before .before .clear-row .ensures) (c .before .before .clear-row2 .ensures), beam .1 .1 .1)
+    record { outcome = beam-cleared _ _ _ (beam .0) (sym (c .before .before .before .before .before .before .before .before .before .was-searched .ensures) ∙ c .before .before .before .before .before .before .before .before .if1 .taken) (c .before .before .before .before .before .before .clear-row .ensures) (c .before .before .clear-row2 .ensures); demanded = (beam .1 .0, beam .1 .1 .0); keeps = beam .1 .1 .1 }
 
 same-length-5 : tie.Need-same-length-5
 same-length-5 c = search needs
@@ -45,9 +47,10 @@ same-length-6 : tie.Need-same-length-6
 same-length-6 c = search needs
 
 returns-2 : tie.Need-returns-2
+unfolding searchOutcome Demanded
 returns-2 c =
     let beam = c .before .before .before .before .before .rdoq-block-beam .ensures in
-    (beam-left _ _ _ (beam .0) refl (sym (c .before .was-searched .ensures) ∙ c .if1 .left), beam .1 .1 .1)
+    record { outcome = beam-left _ _ _ (beam .0) refl (sym (c .before .was-searched .ensures) ∙ c .if1 .left); demanded = (beam .1 .0, beam .1 .1 .0); keeps = beam .1 .1 .1 }
 
 pub beam-with-rows-spec : {M : Type 1} → statement M
 beam-with-rows-spec =

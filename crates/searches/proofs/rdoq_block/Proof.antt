@@ -1,4 +1,4 @@
-use Rattle.searches.specs.Outcome.{searchOutcome}
+use Rattle.searches.specs.Outcome.{searchOutcome, Demanded}
 use Rattle.searches.proofs.Results.{greedy-result}
 use borrow.Author.Needs.{needs}
 use Rattle.searches.proofs.rdoq_block.Statement.{statement}
@@ -31,11 +31,11 @@ same-length : tie.Need-same-length
 same-length c = search needs
 
 returns : tie.Need-returns
-unfolding searchOutcome
+unfolding searchOutcome Demanded
 returns c =
     let done = c .before .rdoq-block-greedy .ensures in
     let which = c .before .before .before .enum-told .given .1 in
-    (rw which (greedy-result _ _ _ (done .0) (done .1 .0)), done .1 .1 .1)
+    record { outcome = rw which (greedy-result _ _ _ (done .0) (done .1 .0)); demanded = rw which (done .1 .1 .0); keeps = done .1 .1 .1 }
 
 same-length-2 : tie.Need-same-length-2
 same-length-2 c = search needs
@@ -50,11 +50,11 @@ same-length-5 : tie.Need-same-length-5
 same-length-5 c = search needs
 
 returns-2 : tie.Need-returns-2
-unfolding searchOutcome
+unfolding searchOutcome Demanded
 returns-2 c =
     let done = c .before .before .before .before .before .before .before .beam-with-rows .ensures in
     let which = c .before .before .before .before .before .before .before .before .before .before .before .before .enum-told2 .given .1 in
-    (rw which (done .0), done .1)
+    rw which done
 
 same-length-6 : tie.Need-same-length-6
 same-length-6 c = search needs
@@ -69,11 +69,11 @@ same-length-9 : tie.Need-same-length-9
 same-length-9 c = search needs
 
 returns-3 : tie.Need-returns-3
-unfolding searchOutcome
+unfolding searchOutcome Demanded
 returns-3 c =
     let done = c .before .before .before .before .before .before .before .rdoq-block-banded .ensures in
     let which = c .before .before .before .before .before .before .before .before .before .before .before .before .enum-told3 .given .1 in
-    (rw which (done .0), done .1 .1 .1)
+    record { outcome = rw which (done .0); demanded = rw which (done .1 .0, done .1 .1 .0); keeps = done .1 .1 .1 }
 
 pub rdoq-block-spec : {M : Type 1} → statement M
 rdoq-block-spec =
