@@ -1,5 +1,6 @@
 # make test       the whole gate: layout, proofs, must-fail edits, programs; then the bindings and a short comparison, where their tools are at hand
 # make run        the main program on a sample
+# make library    the static library for C and Rust, target/staticlib/librdoq_c.a
 # make bindings   the static library, the C example and the tests of the Rust crate
 # make compare N=1000 CLASSES=1,2 SEED=1 WITHOUT=beam
 #                 the leaf calls, and N blocks of each size class, by the Rust and by this port (compare/README.md says what is compared)
@@ -26,11 +27,12 @@ PASSES ?= 31
 JIXEL_SRC ?= $(abspath ../shared/docs/src)
 export JIXEL_SRC
 
-.PHONY: test run bindings compare bench
+.PHONY: test run library bindings compare bench
 
 # rt's closing line, 'N passed, 0 failed', is kept back and printed last.
 test:
 	rt fmt --check
+	@diff docs/frequency-contexts.md <(tools/frequency_sheet.sh) || { echo 'docs/frequency-contexts.md is not what tools/frequency_sheet.sh prints' >&2; exit 1; }
 	@rt ci | awk 'NR > 1 { print last; fflush() } { last = $$0 } END { print last > "target/verdict.txt" }'
 	@$(MAKE) bindings > target/bindings.log 2>&1 || { cat target/bindings.log; exit 1; }
 	@grep '^bindings:' target/bindings.log
@@ -49,11 +51,12 @@ run:
 CC_STRICT := gcc -std=c99 -Wall -Wextra -Werror -Iinclude
 STATICLIB := target/staticlib/librdoq_c.a
 
+library:
+	@tools/archive.sh
+
 # Without gcc or without cargo, that part is left out, and said so.
-bindings:
+bindings: library
 	@tools/readme_snippets.sh
-	@mkdir -p target
-	@rt staticlib rdoq_c > target/staticlib.log 2>&1 || { cat target/staticlib.log >&2; exit 1; }
 	@if command -v gcc > /dev/null; then \
 	    $(CC_STRICT) -o target/example_c bindings/c/example.c $(STATICLIB) -lm && target/example_c && \
 	    $(CC_STRICT) -o target/quick_start_c bindings/c/quick_start.c $(STATICLIB) && target/quick_start_c && \
@@ -64,11 +67,10 @@ bindings:
 	    echo 'bindings: the tests of the Rust crate pass'; \
 	else echo 'bindings: no cargo here: the tests of the Rust crate are left out'; fi
 
-compare:
+compare: library
 	@command -v cargo > /dev/null || { echo 'make compare needs cargo, and the Rust in the folder that JIXEL_SRC names'; exit 2; }
 	@mkdir -p target
 	@rt check level_search > target/compare.log 2>&1 || { cat target/compare.log >&2; exit 1; }
-	@rt staticlib rdoq_c > target/staticlib.log 2>&1 || { cat target/staticlib.log >&2; exit 1; }
 	@cargo build --quiet --release --offline --manifest-path compare/Cargo.toml --bin compare --bin leaves
 	@compare/target/release/leaves
 	@compare/target/release/compare $(N) --seed $(SEED) --port target/bin/level_search $(if $(CLASSES),--classes $(CLASSES)) $(if $(WITHOUT),--without $(WITHOUT))
@@ -76,9 +78,7 @@ compare:
 BENCH_times = times $(PASSES) docs/PERFORMANCE.md docs/performance.svg
 BENCH_instructions = instructions docs/PERFORMANCE.md
 
-bench:
+bench: library
 	@command -v cargo > /dev/null || { echo 'make bench needs cargo, and the Rust in the folder that JIXEL_SRC names'; exit 2; }
-	@mkdir -p target
-	@rt staticlib rdoq_c > target/staticlib.log 2>&1 || { cat target/staticlib.log >&2; exit 1; }
 	@cargo build --quiet --profile speed --offline --manifest-path compare/Cargo.toml --bin bench
 	@compare/target/speed/bench $(BENCH_$(MODE))

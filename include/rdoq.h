@@ -1,9 +1,9 @@
 /*
  * The level search of a JPEG XL encoder, for one block.
  *
- * The functions are those of crates/rdoq_c, whose contracts are proved. Build the library with
+ * The functions are those of crates/c_leaves, c_book and c_search, whose contracts are proved. Build the library with
  *
- *     rt staticlib rdoq_c        writes target/staticlib/librdoq_c.a
+ *     make library               writes target/staticlib/librdoq_c.a
  *
  * and link that archive. It needs nothing but memset. x86-64 Linux only.
  *
@@ -17,7 +17,9 @@
  * The arrays and variables that a call writes to overlap nothing else that it is lent. A bool is 0 or 1. These are the only duties
  * of a caller: wrong lengths and wrong contents are refused by number.
  *
- * Refusals. The lowest number that applies is returned.
+ * Refusals. The first check that fails is answered. A search makes its checks in this order: `search` names one (17), 1 to 9, 18,
+ * 10 to 14; then the trellis may find 15, the beam 16. The builder of a prefix code makes 1 and 2, rdoq_fill_ready 1 to 5. The
+ * leaf and price calls make 17 alone.
  *
  *    1  the map is not 14,850 bytes, or the clusters are not 1 to 256
  *         Lend a byte for each context; name 1 to 256 clusters.
@@ -53,6 +55,9 @@
  *         Give finite prices to the symbols that the block needs, or keep the block as it is: no level was changed.
  *   17  an argument lies outside the call's domain, or `search` names none
  *         See the comment over the call.
+ *   18  the product of the sides is not what ISO/IEC 18181-1 gives for the strategy (codes 0-3, 12-17: 1; 6, 7: 2; 4, 8, 9: 4;
+ *       10, 11: 8; 5: 16; 19, 20: 32; 18: 64; 22, 23: 128; 21: 256; 25, 26: 512; 24: 1,024)
+ *         Pass the strategy and the sides of one block. Which side is the longer does not matter.
  */
 #ifndef RDOQ_H
 #define RDOQ_H
@@ -97,7 +102,8 @@ uint32_t rdoq_fill_ready(uint32_t clusters, const uint8_t *map, size_t map_len, 
 /*
  * Writes every symbol price of a prefix code. depths has 128 bytes a cluster, singles a byte a cluster: not 0 where the cluster's
  * code has a single symbol. A depth of 0 costs 15.0 (strict: +infinity); any other depth costs itself, or 0.0 where the symbol is
- * the only one. Returns 0, or 1 or 2 and writes nothing.
+ * the only one. A cluster whose 128 depths are all 0 costs 15.0 throughout, strict or not: it was absent where the code was trained,
+ * and gets its words later. Returns 0, or 1 or 2 and writes nothing.
  */
 uint32_t rdoq_prefix_symbol_bits(uint32_t clusters, const uint8_t *depths, size_t depths_len, const uint8_t *singles,
                                  size_t singles_len, bool strict, float *symbols, size_t symbols_len);
@@ -139,9 +145,10 @@ uint32_t rdoq_token_bits_pair(uint32_t clusters, const uint8_t *map, size_t map_
  *   cost, count     written where the code is 0: the count of nonzero levels from scan position c on, and, by beam and trellis,
  *                   the cost of the levels that were written. Greedy leaves cost as it was.
  *
- * After refusals 1 to 14 and 17 nothing that was lent has changed. After 15, after 16 and after an answer of the trellis or the
- * beam every choice byte is 255 and every float of the rows +infinity. Greedy touches no room. The levels at scan positions below c
- * and past the window never change, and a refused block keeps every level.
+ * After refusals 1 to 14, 17 and 18 nothing that was lent has changed. (The proofs know one NaN: that a NaN keeps its bit pattern
+ * they do not say; the code stores nothing there.) After 15, after 16 and after an answer of the trellis or the beam every choice
+ * byte is 255 and every float of the rows +infinity. Greedy touches no room. The levels at scan positions below c and past the window
+ * never change, and a refused block keeps every level.
  */
 uint32_t rdoq_block(uint32_t search, uint32_t clusters, const uint8_t *map, size_t map_len, const uint8_t *configs,
                     size_t configs_len, const float *symbols, size_t symbols_len, const float *ready, size_t ready_len, uint32_t cx,

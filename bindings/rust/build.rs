@@ -1,4 +1,4 @@
-//! Links the static library that `rt staticlib rdoq_c` writes.
+//! Links the static library that `make library` writes.
 use std::env;
 use std::path::PathBuf;
 use std::process::exit;
@@ -13,7 +13,7 @@ fn main() {
     println!("cargo:rerun-if-changed={}", archive.display());
     if !archive.is_file() {
         eprintln!("rdoq: {} is missing.", archive.display());
-        eprintln!("Run `make bindings`, or `rt staticlib rdoq_c`, at the root of the repository,");
+        eprintln!("Run `make library` at the root of the repository,");
         eprintln!("or set RDOQ_LIB_DIR to the folder that holds librdoq_c.a.");
         exit(1);
     }

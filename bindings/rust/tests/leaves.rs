@@ -20,7 +20,7 @@ fn config(split_exponent: u32, msb_in_token: u32, lsb_in_token: u32) -> Config {
 #[test]
 fn refusals_have_their_numbers() {
     let mut texts = HashSet::new();
-    for number in 1..=17 {
+    for number in 1..=18 {
         let refusal = Refusal::from_number(number).unwrap();
         assert_eq!(refusal.number(), number);
         let error: Box<dyn Error> = Box::new(refusal);
@@ -29,7 +29,7 @@ fn refusals_have_their_numbers() {
         assert!(texts.insert(text));
     }
     assert_eq!(Refusal::from_number(0), None);
-    assert_eq!(Refusal::from_number(18), None);
+    assert_eq!(Refusal::from_number(255), None);
     assert_eq!(Refusal::Ideal.number(), 13);
     assert_eq!(Refusal::BandInfinite.number(), 15);
 }
@@ -76,6 +76,13 @@ fn a_book_from_a_prefix_code() {
         assert_eq!(book.symbols()[..3], [1.0, 9.0, lacking]);
         // the second cluster's code has a single symbol
         assert_eq!(book.symbols()[SYMBOLS + 2..SYMBOLS + 4], [lacking, 0.0]);
+    }
+    // a cluster without a word costs 15 throughout, strict or not, whatever its flag
+    depths[SYMBOLS + 3] = 0;
+    for (pricing, lacking) in [(Pricing::Lenient, 15.0), (Pricing::Strict, f32::INFINITY)] {
+        let book = two.clone().prefix_code(&depths, &[0, 5], pricing).unwrap().fill().unwrap();
+        assert_eq!(book.symbols()[..3], [1.0, 9.0, lacking]);
+        assert_eq!(book.symbols()[SYMBOLS..], [15.0; SYMBOLS]);
     }
     assert_eq!(two.clone().prefix_code(&depths[1..], &[0, 0], Pricing::Strict).unwrap_err(), Refusal::BookLength);
     assert_eq!(two.prefix_code(&depths, &[0], Pricing::Strict).unwrap_err(), Refusal::BookLength);

@@ -40,13 +40,7 @@ pub num-below : (i : ℕ) → i < 64 → getD coeffNumNonzeroContext i 0 < 207
 unfolding below coeffNumNonzeroContext
 num-below i h = ltb→lt _ _ (at (below 207) coeffNumNonzeroContext tt i h)
 
--- both tables by rule, on the places from lo up to hi
-pub freq-by : (lo hi : ℕ) (f : ℕ → ℕ) → T (every (follows lo hi f) 0 coeffFreqContext) → (k : ℕ) → lo ≤ k → k < hi → k < 64 → (f k ≡ getD coeffFreqContext k 0) × (f k < 31)
-unfolding coeffFreqContext
-freq-by lo hi f t k low high h =
-    let e = between lo hi f coeffFreqContext t k low high h in
-    (sym e, subst (λ (x : ℕ). x < 31) e (freq-below k h))
-
+-- the count table by rule, on the places from lo up to hi
 pub num-by : (lo hi : ℕ) (f : ℕ → ℕ) → T (every (follows lo hi f) 0 coeffNumNonzeroContext) → (k : ℕ) → lo ≤ k → k < hi → k < 64 → (f k ≡ getD coeffNumNonzeroContext k 0) × (f k < 207)
 unfolding coeffNumNonzeroContext
 num-by lo hi f t k low high h =
@@ -111,7 +105,7 @@ index-sum c r k p h =
     let s : ((r + c - 1) / c + k / c) * c < 65 * c = rw add-mul (omega (arith, div-mul-le-self (r + c - 1) c, div-mul-le-self k c)) in
     omega (arith, lt-of-mul-lt-mul-right c s)
 
-first-index : (c k : ℕ) → 0 < c → c ≤ k → 0 < k / c
+pub first-index : (c k : ℕ) → 0 < c → c ≤ k → 0 < k / c
 first-index c k p h =
     let s : 0 * c < k / c * c = omega (arith, div-add-mod' k c, mod-lt k p) in
     lt-of-mul-lt-mul-right c s

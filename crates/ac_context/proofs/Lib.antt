@@ -1,3 +1,4 @@
 pub mod Bounds
 pub mod Domain
+pub mod Frequency
 mod Same

@@ -60,6 +60,10 @@ fineZeroDensityContextsOffset block = nonZeroBuckets * fineBlockContexts + zeroD
 unfoldable pub coeffFreqContext : List ℕ
 coeffFreqContext = 0 ∷ 0 ∷ 1 ∷ 2 ∷ 3 ∷ 4 ∷ 5 ∷ 6 ∷ 7 ∷ 8 ∷ 9 ∷ 10 ∷ 11 ∷ 12 ∷ 13 ∷ 14 ∷ 15 ∷ 15 ∷ 16 ∷ 16 ∷ 17 ∷ 17 ∷ 18 ∷ 18 ∷ 19 ∷ 19 ∷ 20 ∷ 20 ∷ 21 ∷ 21 ∷ 22 ∷ 22 ∷ 23 ∷ 23 ∷ 23 ∷ 23 ∷ 24 ∷ 24 ∷ 24 ∷ 24 ∷ 25 ∷ 25 ∷ 25 ∷ 25 ∷ 26 ∷ 26 ∷ 26 ∷ 26 ∷ 27 ∷ 27 ∷ 27 ∷ 27 ∷ 28 ∷ 28 ∷ 28 ∷ 28 ∷ 29 ∷ 29 ∷ 29 ∷ 29 ∷ 30 ∷ 30 ∷ 30 ∷ 30 ∷ []
 
+-- the same by rule, from index 1 on: one context a position below 16, then one for two, from 32 on one for four
+unfoldable pub frequencyByRule : ℕ → ℕ
+frequencyByRule i = cond (ltb i 16) (i - 1) (cond (ltb i 32) (7 + i / 2) (15 + i / 4))
+
 -- CoeffNumNonzeroContext, by remaining count over covered blocks, rounded up; index 0 is never used
 unfoldable pub coeffNumNonzeroContext : List ℕ
 coeffNumNonzeroContext = 0 ∷ 0 ∷ 31 ∷ 62 ∷ 62 ∷ 93 ∷ 93 ∷ 93 ∷ 93 ∷ 123 ∷ 123 ∷ 123 ∷ 123 ∷ 152 ∷ 152 ∷ 152 ∷ 152 ∷ 152 ∷ 152 ∷ 152 ∷ 152 ∷ 180 ∷ 180 ∷ 180 ∷ 180 ∷ 180 ∷ 180 ∷ 180 ∷ 180 ∷ 180 ∷ 180 ∷ 180 ∷ 180 ∷ 206 ∷ 206 ∷ 206 ∷ 206 ∷ 206 ∷ 206 ∷ 206 ∷ 206 ∷ 206 ∷ 206 ∷ 206 ∷ 206 ∷ 206 ∷ 206 ∷ 206 ∷ 206 ∷ 206 ∷ 206 ∷ 206 ∷ 206 ∷ 206 ∷ 206 ∷ 206 ∷ 206 ∷ 206 ∷ 206 ∷ 206 ∷ 206 ∷ 206 ∷ 206 ∷ 206 ∷ []

@@ -1,6 +1,6 @@
 // The tables of ISO/IEC 18181-1 that contexts are read from.
 ghost use mathlib.Core.Path.{_≡_};
-ghost use Prim.Native.Nat.{_<_};
+ghost use Prim.Native.Nat.{_<_, _≤_};
 ghost use lib.ListN.{getD};
 ghost use Rattle.ac_context.specs.Contexts.{strategyOrder, blockContextMap, channelRow, coeffFreqContext, coeffNumNonzeroContext, Alike};
 
@@ -107,15 +107,12 @@ pub(crate) fn compact_block_context(at: usize) -> usize
 }
 
 // The two tables below are read in the searches' inner loops. A constant array is built anew at each use, so their entries are worked
-// out: one context a position up to 16, then one for two, then one for four.
+// out. This one is `frequencyByRule`; index 0 is never asked for.
 pub(crate) fn coeff_freq_context(at: usize) -> usize
-    requires { ⌜ at < 64 ⌝ }
+    requires { ⌜ (1 ≤ at) × (at < 64) ⌝ }
     ensures { λ r. ⌜ (r ≡ getD coeffFreqContext at 0) × (r < 31) ⌝ }
 {
     if at < 16 {
-        if at == 0 {
-            return 0;
-        }
         return at - 1;
     }
     if at < 32 {

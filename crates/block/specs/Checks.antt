@@ -1,17 +1,18 @@
--- Checks 7 to 14 of document 01, in the order in which they are made.
+-- Checks 7 to 14 of document 01, with document 02's 18, in the order in which they are made.
 use Prim.Native.Nat.{ℕ, _+_, _-_, _*_}
 use mathlib.Core.Bool.{Bool, cond, _&&_}
+use mathlib.Core.List.{List, [], _∷_, _++_}
 use lib.Dec.{eqb, leb}
-use lib.ListN.{length}
+use lib.ListN.{length, getD}
 use Rattle.ac_context.specs.Contexts.{isPowerBelow}
 use Rattle.bias.specs.Level.{validBias}
 use Rattle.candidates.specs.Candidates.{isCurrent}
 use Rattle.candidates.specs.Nearest.{isIdeal}
+use Rattle.laws.specs.Refusals.{firstRefused}
 use Rattle.prices.specs.Book.{Book}
 use Rattle.prices.specs.Checks.{each, bookRefusal}
 use Rattle.scan.specs.Scan.{eachOnce}
 use Rattle.weights.specs.Settings.{validSettings}
-use Rattle.weights.specs.Window.{windowOf}
 use Rattle.weights.specs.declared.Window.{Window}
 use Rattle.block.specs.Block.{Block, covered, inputAt, ideal}
 
@@ -28,6 +29,15 @@ check8 b =
 unfoldable pub check9 : Block → Bool
 check9 b = leb (b .shape .strategy) 26 && leb (b .shape .channel) 2
 
+-- ISO/IEC 18181-1: how many 8×8 blocks a varblock of each strategy code covers
+unfoldable pub strategyCovered : List ℕ
+strategyCovered =
+    1 ∷ 1 ∷ 1 ∷ 1 ∷ 4 ∷ 16 ∷ 2 ∷ 2 ∷ 4 ∷ 4 ∷ 8 ∷ 8 ∷ 1 ∷ 1 ∷ 1 ∷ 1 ∷ 1 ∷ 1 ∷ 64 ∷ 32 ∷ 32 ∷ 256 ∷ 128 ∷ 128 ∷ 1024 ∷ 512 ∷ 512 ∷ []
+
+-- the sides' product is the strategy's; which side is the longer does not matter
+unfoldable pub check18 : Block → Bool
+check18 b = eqb (covered b) (getD strategyCovered (b .shape .strategy) 0)
+
 unfoldable pub check10 : Block → Bool
 check10 b = validSettings (b .settings) && validBias (b .bias)
 
@@ -42,26 +52,33 @@ check12 b = each (63 * covered b) (λ i. isCurrent (inputAt b (covered b + i)))
 unfoldable pub check13 : Window → Block → Bool
 check13 v b = each (v .length) (λ i. isIdeal (ideal b i))
 
--- The number of the first check among 7 to 13 that a block fails, else what comes after them.
+-- The checks of a block in their order, each with its number: first what is known without a look into the buffers ..
+unfoldable pub formChecks : Block → List (Bool × ℕ)
+formChecks b = (check7 b, 7) ∷ (check8 b, 8) ∷ (check9 b, 9) ∷ (check18 b, 18) ∷ (check10 b, 10) ∷ []
+
+-- .. then what the buffers hold.
+unfoldable pub contentChecks : Window → Block → List (Bool × ℕ)
+contentChecks v b = (check11 b, 11) ∷ (check12 b, 12) ∷ (check13 v b, 13) ∷ []
+
+-- the number of the first check that a block fails, else what comes after them
 unfoldable pub blockRefusal : Window → Block → ℕ → ℕ
-blockRefusal v b later =
-    cond (check7 b)
-    (cond (check8 b)
-    (cond (check9 b) (cond (check10 b) (cond (check11 b) (cond (check12 b) (cond (check13 v b) later 13) 12) 11) 10) 9)
-    8)
-    7
+blockRefusal v b later = firstRefused (formChecks b ++ contentChecks v b) later
 
--- The first refusal of a search among 1 to 14; 0 where there is none. `room`: check 14 passes.
-unfoldable pub searchRefusal : Book → Block → Bool → ℕ
-searchRefusal book b room = cond (eqb (bookRefusal book) 0) (blockRefusal (windowOf (covered b)) b (cond room 0 14)) (bookRefusal book)
+-- The first refusal of a search of the window v among checks 1 to 14 and 18; 0 where there is none. `room`: check 14 passes.
+unfoldable pub searchRefusal : Window → Book → Block → Bool → ℕ
+searchRefusal v book b room = cond (eqb (bookRefusal book) 0) (blockRefusal v b (cond room 0 14)) (bookRefusal book)
 
--- Check 14. The trellis asks for a byte and, in each cost row, a float for each of a position's 2 (2 w + 2) states, w being the band's half-width ..
-unfoldable pub states : ℕ → ℕ
+-- Check 14. A search asks for `bytes` choice bytes a window position and, in each cost row, for `floats` floats.
+unfoldable pub enoughRoom : ℕ → ℕ → ℕ → ℕ → ℕ → ℕ → Bool
+enoughRoom bytes floats window choices rowA rowB = leb (bytes * window) choices && leb floats rowA && leb floats rowB
+
+-- The trellis: one of each for each of a position's states, w being the band's half-width.
+abbrev pub states : ℕ → ℕ
 states w = 2 * (2 * w + 2)
 
-unfoldable pub trellisRoom : ℕ → ℕ → ℕ → ℕ → ℕ → Bool
-trellisRoom w window choices rowA rowB = leb (states w * window) choices && leb (states w) rowA && leb (states w) rowB
+abbrev pub trellisRoom : ℕ → ℕ → ℕ → ℕ → ℕ → Bool
+trellisRoom w window choices rowA rowB = enoughRoom (states w) (states w) window choices rowA rowB
 
--- .. and the beam for six bytes a position: a path of three for each `prev`.
-unfoldable pub beamRoom : ℕ → ℕ → Bool
+-- The beam: six bytes, a path of three for each `prev`. Greedy: nothing.
+abbrev pub beamRoom : ℕ → ℕ → Bool
 beamRoom window choices = leb (6 * window) choices

@@ -3,24 +3,26 @@ use mathlib.Core.Path.{_≡_, sym, _∙_}
 use mathlib.Core.Bool.{Bool, true, false, not, _&&_, and-false}
 use Prim.Native.Nat.{ℕ, _+_, _*_, _≤_}
 use native.Mathlib.Omega.{arith}
-use borrow.Author.Tests.{not-true, not-false}
+use borrow.Author.Tests.{not-true, not-false, leb-true}
 use lib.Dec.{eqb, leb}
-use lib.ListN.{length}
+use lib.ListN.{length, getD}
 use Rattle.ac_context.specs.Contexts.{isPowerBelow}
 use Rattle.ac_context.proofs.Bounds.{covered-some, covered-most}
 use Rattle.bias.specs.Level.{validBias}
 use Rattle.block.specs.Block.{Block, covered, inputAt, idealAt, ideal}
-use Rattle.block.specs.Checks.{check7, check8, check9, check10, check11, check12, check13}
+use Rattle.block.specs.Checks.{check7, check8, check9, check18, check10, check11, check12, check13, formChecks, contentChecks, strategyCovered}
 use Rattle.candidates.specs.Candidates.{isCurrent}
 use Rattle.candidates.specs.Nearest.{isIdeal}
+use Rattle.laws.proofs.Tests.{and-left}
+use Rattle.laws.specs.Refusals.{firstRefused}
 use Rattle.prices.specs.Checks.{each}
 use Rattle.scan.specs.Scan.{eachOnce, Perm, levelAt}
 use Rattle.scan.proofs.Once.{perm-of}
 use Rattle.weights.specs.Settings.{validSettings}
-use Rattle.weights.specs.Window.{windowOf}
+use Rattle.weights.specs.Window.{windowFor}
 use Rattle.weights.specs.declared.Window.{Window}
 use Rattle.block_checks.specs.Parts.{formRefusal, contentRefusal}
-use Rattle.block_checks.proofs.Laws.{formed, windowed}
+use Rattle.block_checks.proofs.Laws.{formed, window-fits}
 
 -- a test that the code turns round
 pub failed : {r a : Bool} → r ≡ a → not r ≡ true → a ≡ false
@@ -31,6 +33,10 @@ held {r} e t = sym e ∙ not-false r t
 
 pub all-of : {a b c : Bool} (d : Bool) → a ≡ true → b ≡ true → c ≡ true → d ≡ (a && b && c && d)
 all-of d e f g = rw (e, f, g)
+
+-- a strategy that passed check 9
+pub strategy-coded : (strategy channel : ℕ) → leb strategy 26 && leb channel 2 ≡ true → strategy ≤ 26
+strategy-coded strategy channel e = leb-true _ _ (and-left (leb strategy 26) (leb channel 2) e)
 
 module _ (b : Block) where
   pub first-side : isPowerBelow 6 (b .shape .cx) ≡ false → check7 b ≡ false
@@ -56,6 +62,10 @@ module _ (b : Block) where
   unfolding check9
   nine h = h
 
+  pub eighteen : {r : Bool} {c : ℕ} → c ≡ b .shape .cx * b .shape .cy → r ≡ eqb c (getD strategyCovered (b .shape .strategy) 0) → r ≡ check18 b
+  unfolding check18 covered
+  eighteen e h = rw e at h
+
   pub settings-fail : validSettings (b .settings) ≡ false → check10 b ≡ false
   unfolding check10
   settings-fail e = rw e
@@ -67,27 +77,32 @@ module _ (b : Block) where
   module _ (e7 : check7 b ≡ true) where
     module _ (e8 : check8 b ≡ true) where
       module _ (e9 : check9 b ≡ true) where
-        pub at10 : check10 b ≡ false → 10 ≡ formRefusal b 0
-        unfolding formRefusal
-        at10 e = rw (e7, e8, e9, e)
+        module _ (e18 : check18 b ≡ true) where
+          pub at10 : check10 b ≡ false → 10 ≡ formRefusal b
+          unfolding formRefusal formChecks firstRefused
+          at10 e = rw (e7, e8, e9, e18, e)
 
-        pub none : check10 b ≡ true → 0 ≡ formRefusal b 0
-        unfolding formRefusal
-        none e = rw (e7, e8, e9, e)
+          pub none : check10 b ≡ true → 0 ≡ formRefusal b
+          unfolding formRefusal formChecks firstRefused
+          none e = rw (e7, e8, e9, e18, e)
 
-      pub at9 : check9 b ≡ false → 9 ≡ formRefusal b 0
-      unfolding formRefusal
+        pub at18 : check18 b ≡ false → 18 ≡ formRefusal b
+        unfolding formRefusal formChecks firstRefused
+        at18 e = rw (e7, e8, e9, e)
+
+      pub at9 : check9 b ≡ false → 9 ≡ formRefusal b
+      unfolding formRefusal formChecks firstRefused
       at9 e = rw (e7, e8, e)
 
-    pub at8 : check8 b ≡ false → 8 ≡ formRefusal b 0
-    unfolding formRefusal
+    pub at8 : check8 b ≡ false → 8 ≡ formRefusal b
+    unfolding formRefusal formChecks firstRefused
     at8 e = rw (e7, e)
 
-  pub at7 : check7 b ≡ false → 7 ≡ formRefusal b 0
-  unfolding formRefusal
+  pub at7 : check7 b ≡ false → 7 ≡ formRefusal b
+  unfolding formRefusal formChecks firstRefused
   at7 e = rw e
 
-  module _ (ok : formRefusal b 0 ≡ 0) {c : ℕ} (blocks : c ≡ b .shape .cx * b .shape .cy) where
+  module _ (ok : formRefusal b ≡ 0) {c : ℕ} (blocks : c ≡ b .shape .cx * b .shape .cy) where
     pub few : c ≤ 1024
     unfolding covered
     few = rw blocks (covered-most (formed b ok .power))
@@ -112,9 +127,9 @@ module _ (b : Block) where
     unfolding covered
     inverse-held = rw blocks (formed b ok .inverse-long)
 
-    pub window-held : {v : Window} → v ≡ windowOf c → c + v .length ≤ 64 * c
+    pub window-held : (cap : ℕ) {v : Window} → v ≡ windowFor cap c → c + v .length ≤ 64 * c
     unfolding covered
-    window-held {v} e = rw (e, blocks) (windowed (b .shape .cx * b .shape .cy) (covered-some (formed b ok .power)) .fits)
+    window-held cap {v} e = rw (e, blocks) (window-fits cap (b .shape .cx * b .shape .cy) (covered-some (formed b ok .power)))
 
   pub eleven : {r : Bool} → r ≡ eachOnce (b .scan) → r ≡ check11 b
   unfolding check11
@@ -126,24 +141,24 @@ module _ (b : Block) where
     twelve h = rw blocks at h
 
     pub thirteen :
-        {v : Window} → v ≡ windowOf c → r ≡ each (v .length) (λ i. isIdeal (idealAt (b .scan) (b .source) (b .inverse) (b .scale) (c + i)))
-        → r ≡ check13 (windowOf (b .shape .cx * b .shape .cy)) b
+        (cap : ℕ) {v : Window} → v ≡ windowFor cap c → r ≡ each (v .length) (λ i. isIdeal (idealAt (b .scan) (b .source) (b .inverse) (b .scale) (c + i)))
+        → r ≡ check13 (windowFor cap (b .shape .cx * b .shape .cy)) b
     unfolding check13 ideal covered
-    thirteen e h = rw (e, blocks) at h
+    thirteen cap e h = rw (e, blocks) at h
 
   module _ (v : Window) where
-    pub at11 : check11 b ≡ false → 11 ≡ contentRefusal v b 0
-    unfolding contentRefusal
+    pub at11 : check11 b ≡ false → 11 ≡ contentRefusal v b
+    unfolding contentRefusal contentChecks firstRefused
     at11 e = rw e
 
-    pub at12 : check11 b ≡ true → check12 b ≡ false → 12 ≡ contentRefusal v b 0
-    unfolding contentRefusal
+    pub at12 : check11 b ≡ true → check12 b ≡ false → 12 ≡ contentRefusal v b
+    unfolding contentRefusal contentChecks firstRefused
     at12 d e = rw (d, e)
 
-    pub at13 : check11 b ≡ true → check12 b ≡ true → check13 v b ≡ false → 13 ≡ contentRefusal v b 0
-    unfolding contentRefusal
+    pub at13 : check11 b ≡ true → check12 b ≡ true → check13 v b ≡ false → 13 ≡ contentRefusal v b
+    unfolding contentRefusal contentChecks firstRefused
     at13 d f e = rw (d, f, e)
 
-    pub passes : check11 b ≡ true → check12 b ≡ true → check13 v b ≡ true → 0 ≡ contentRefusal v b 0
-    unfolding contentRefusal
+    pub passes : check11 b ≡ true → check12 b ≡ true → check13 v b ≡ true → 0 ≡ contentRefusal v b
+    unfolding contentRefusal contentChecks firstRefused
     passes d f e = rw (d, f, e)

@@ -1,4 +1,4 @@
-// Checks 7 to 14, in the order in which they are made.
+// Checks 7 to 14 and 18, in the order in which they are made.
 use bias::DequantBias;
 use block::Shape;
 use weights::Settings;
@@ -10,12 +10,12 @@ ghost use lib.IntN.{pos};
 ghost use lib.ListN.{length, getD};
 ghost use Rattle.ac_context.specs.Contexts.{isPowerBelow};
 ghost use Rattle.block.specs.Block.{blockOf, covered, idealAt};
-ghost use Rattle.block.specs.Checks.{blockRefusal, trellisRoom, beamRoom};
+ghost use Rattle.block.specs.Checks.{blockRefusal, strategyCovered, enoughRoom};
 ghost use Rattle.candidates.specs.Candidates.{isCurrent};
 ghost use Rattle.candidates.specs.Nearest.{isIdeal};
 ghost use Rattle.prices.specs.Checks.{each};
 ghost use Rattle.scan.specs.Scan.{Perm, levelAt};
-ghost use Rattle.weights.specs.Window.{windowOf};
+ghost use Rattle.weights.specs.Window.{windowFor};
 ghost use Rattle.block_checks.specs.Parts.{formRefusal, contentRefusal};
 
 fn is_side(side: u32) -> bool
@@ -69,6 +69,52 @@ fn is_coded(strategy: u8, channel: u8) -> bool
         return false;
     }
     channel <= 2
+}
+
+// ISO/IEC 18181-1: how many 8×8 blocks a varblock of each strategy code covers.
+const STRATEGY_COVERED: [u16; 27] = [
+    1,
+    1,
+    1,
+    1,
+    4,
+    16,
+    2,
+    2,
+    4,
+    4,
+    8,
+    8,
+    1,
+    1,
+    1,
+    1,
+    1,
+    1,
+    64,
+    32,
+    32,
+    256,
+    128,
+    128,
+    1024,
+    512,
+    512,
+];
+
+fn wide(x: u16) -> usize
+    ensures { λ r. ⌜ r ≡ x ⌝ }
+{
+    x as usize
+}
+
+// Check 18.
+fn fits(strategy: u8, covered_blocks: usize) -> bool
+    requires { ⌜ strategy ≤ 26 ⌝ }
+    ensures { λ r. ⌜ r ≡ eqb «covered_blocks» (getD strategyCovered strategy 0) ⌝ }
+{
+    let code = strategy as usize;
+    covered_blocks == wide(STRATEGY_COVERED[code])
 }
 
 // 0 for a level within ±32,767, else 1.
@@ -138,7 +184,7 @@ fn ideals_within(
     true
 }
 
-// Checks 7 to 10.
+// Checks 7, 8, 9, 18 and 10.
 fn check_form(
     shape: Shape,
     settings: Settings,
@@ -149,7 +195,7 @@ fn check_form(
     inv_qm: &[f32],
     levels: &[i32],
 ) -> u32
-    ensures { λ r. ⌜ r ≡ formRefusal (blockOf shape settings bias scale (now (scan .entry)) (now (source .entry)) (now («inv_qm» .entry)) (now (levels .entry))) 0 ⌝ }
+    ensures { λ r. ⌜ r ≡ formRefusal (blockOf shape settings bias scale (now (scan .entry)) (now (source .entry)) (now («inv_qm» .entry)) (now (levels .entry))) ⌝ }
 {
     let cx = shape.cx;
     let cy = shape.cy;
@@ -159,11 +205,15 @@ fn check_form(
     if !is_side(cy) {
         return 7;
     }
-    if !hold(64 * covered_blocks(cx, cy), scan, source, inv_qm, levels) {
+    let covered = covered_blocks(cx, cy);
+    if !hold(64 * covered, scan, source, inv_qm, levels) {
         return 8;
     }
     if !is_coded(shape.strategy, shape.channel) {
         return 9;
+    }
+    if !fits(shape.strategy, covered) {
+        return 18;
     }
     if !settings.valid() {
         return 10;
@@ -171,7 +221,7 @@ fn check_form(
     if bias.valid() { 0 } else { 10 }
 }
 
-// Checks 11 to 13.
+// Checks 11 to 13, in a window of at most `cap` positions.
 fn check_content(
     shape: Shape,
     settings: Settings,
@@ -181,9 +231,10 @@ fn check_content(
     source: &[f32],
     inv_qm: &[f32],
     levels: &[i32],
+    cap: usize,
 ) -> u32
-    requires { ⌜ formRefusal (blockOf shape settings bias scale (now scan) (now source) (now «inv_qm») (now levels)) 0 ≡ 0 ⌝ }
-    ensures { λ r. ⌜ r ≡ contentRefusal (windowOf (shape .cx * shape .cy)) (blockOf shape settings bias scale (now (scan .entry)) (now (source .entry)) (now («inv_qm» .entry)) (now (levels .entry))) 0 ⌝ }
+    requires { ⌜ formRefusal (blockOf shape settings bias scale (now scan) (now source) (now «inv_qm») (now levels)) ≡ 0 ⌝ }
+    ensures { λ r. ⌜ r ≡ contentRefusal (windowFor cap (shape .cx * shape .cy)) (blockOf shape settings bias scale (now (scan .entry)) (now (source .entry)) (now («inv_qm» .entry)) (now (levels .entry))) ⌝ }
 {
     let covered = covered_blocks(shape.cx, shape.cy);
     if !scan::each_once(scan) {
@@ -192,7 +243,7 @@ fn check_content(
     if !levels_within(covered, scan, levels) {
         return 12;
     }
-    let window = weights::rdoq_window_len(covered);
+    let window = weights::window_under(cap, covered);
     if ideals_within(covered, window.length, scan, source, inv_qm, scale) {
         0
     } else {
@@ -200,7 +251,7 @@ fn check_content(
     }
 }
 
-// Checks 7 to 13: the number of the first that fails, or 0.
+// Checks 7 to 13 and 18, in a window of at most `cap` positions: the number of the first that fails, or 0.
 pub fn check_block(
     shape: Shape,
     settings: Settings,
@@ -210,32 +261,44 @@ pub fn check_block(
     source: &[f32],
     inv_qm: &[f32],
     levels: &[i32],
+    cap: usize,
 ) -> u32
-    ensures { λ r. ⌜ (let b = blockOf shape settings bias scale (now (scan .entry)) (now (source .entry)) (now («inv_qm» .entry)) (now (levels .entry)) in r ≡ blockRefusal (windowOf (covered b)) b 0) ⌝ }
+    ensures { λ r. ⌜ (let b = blockOf shape settings bias scale (now (scan .entry)) (now (source .entry)) (now («inv_qm» .entry)) (now (levels .entry)) in r ≡ blockRefusal (windowFor cap (covered b)) b 0) ⌝ }
 {
     let first = check_form(shape, settings, bias, scale, scan, source, inv_qm, levels);
     if first != 0 {
         return first;
     }
-    check_content(shape, settings, bias, scale, scan, source, inv_qm, levels)
+    check_content(
+        shape,
+        settings,
+        bias,
+        scale,
+        scan,
+        source,
+        inv_qm,
+        levels,
+        cap,
+    )
 }
 
-// Check 14 of the trellis: 28 choice bytes a window position, and 28 costs in each row.
-pub fn trellis_room(window: usize, choices: usize, row_a: usize, row_b: usize) -> bool
-    ensures { λ r. ⌜ r ≡ trellisRoom 6 window choices «row_a» «row_b» ⌝ }
+// Check 14: `bytes` choice bytes a window position, and `floats` costs in each row.
+pub fn enough_room(
+    bytes: usize,
+    floats: usize,
+    window: usize,
+    choices: usize,
+    row_a: usize,
+    row_b: usize,
+) -> bool
+    requires { ⌜ (bytes ≤ 64) × (window ≤ 1024) ⌝ }
+    ensures { λ r. ⌜ r ≡ enoughRoom bytes floats window choices «row_a» «row_b» ⌝ }
 {
-    if window > choices / 28 {
+    if bytes * window > choices {
         return false;
     }
-    if row_a < 28 {
+    if row_a < floats {
         return false;
     }
-    row_b >= 28
-}
-
-// Check 14 of the beam: 6 choice bytes a window position.
-pub fn beam_room(window: usize, choices: usize) -> bool
-    ensures { λ r. ⌜ r ≡ beamRoom window choices ⌝ }
-{
-    window <= choices / 6
+    row_b >= floats
 }

@@ -2,7 +2,7 @@ use borrow.Author.Needs.{needs}
 use Prim.Native.Nat.{ℕ, _+_, _*_, _<_}
 use mathlib.Core.Path.{_≡_, subst⁻¹}
 use native.Mathlib.Omega.{arith}
-use Rattle.ac_context.proofs.Bounds.{covered-some, covered-most, position-below, count-below, context-below}
+use Rattle.ac_context.proofs.Bounds.{covered-some, covered-most, first-index, position-below, count-below, context-below}
 use Rattle.ac_context.specs.Contexts.{zeroDensityContext}
 use Rattle.ac_context.proofs.zero_density_context.Statement.{statement}
 use Rattle.ac_context.proofs.zero_density_context.Tie as tie
@@ -23,7 +23,10 @@ coeff-num-nonzero-context-requires : tie.Need-coeff-num-nonzero-context-requires
 coeff-num-nonzero-context-requires c κs = rw (← (c .pre .0 .power)) (count-below _ _ _ (covered-some (c .pre .0)) (c .pre .1 .coded) (c .pre .1 .left))
 
 coeff-freq-context-requires : tie.Need-coeff-freq-context-requires
-coeff-freq-context-requires c κs = let pre = c .before .pre in rw (← (pre .0 .power)) (position-below _ _ _ (covered-some (pre .0)) (pre .1 .some) (pre .1 .left))
+coeff-freq-context-requires c κs =
+    let pre = c .before .pre in
+    let some = covered-some (pre .0) in
+    rw (← (pre .0 .power)) (first-index _ _ some (pre .1 .coded), position-below _ _ _ some (pre .1 .some) (pre .1 .left))
 
 add-result : tie.Need-add-result
 add-result c = search needs

@@ -1,0 +1,2 @@
+-- What the exported search returns and writes.
+pub mod Search
