@@ -167,9 +167,10 @@ uint32_t rdoq_token_bits_pair(uint32_t clusters, const uint8_t *map, size_t map_
  *   cost, count     written where the code is 0: the count of nonzero levels from scan position c on, and, by beam and trellis,
  *                   the cost of the levels that were written. Greedy leaves cost as it was.
  *
- * After refusals 1 to 14 and 17 nothing that was lent has changed. After 15, after 16 and after an answer of the trellis or the
- * beam every choice byte is 255 and every float of the rows +infinity. Greedy touches no room. The levels at scan positions below c
- * and past the window never change, and a refused block keeps every level.
+ * After refusals 1 to 14, 17 and 18 nothing that was lent has changed. (The proofs know one NaN: that a NaN keeps its bit pattern
+ * they do not say; the code stores nothing there.) After 15, after 16 and after an answer of the trellis or the beam every choice
+ * byte is 255 and every float of the rows +infinity. Greedy touches no room. The levels at scan positions below c and past the window
+ * never change, and a refused block keeps every level.
  */
 uint32_t rdoq_block(uint32_t search, uint32_t clusters, const uint8_t *map, size_t map_len, const uint8_t *configs,
                     size_t configs_len, const float *symbols, size_t symbols_len, const float *ready, size_t ready_len, uint32_t cx,
