@@ -1,4 +1,6 @@
 // The searches, for programs in C and in other languages that call C. `include/rdoq.h` declares their call.
+pub mod candidates;
+
 use bias::DequantBias;
 use block::Shape;
 use c_answers::tell_answer;

@@ -1,4 +1,4 @@
--- `rdoq_candidates` meets its contract. Assumes nothing.
+-- `candidates::rdoq_candidates` meets its contract. Assumes nothing.
 use mathlib.Core.Path.{refl, ap, _∙_}
 use borrow.Author.Tests.{ne-eqb}
 use lib.IntN.{ℤ}
@@ -6,10 +6,10 @@ use mir.Syntax.{w32}
 use mir.ValLaws.{toZ-ofZ}
 use Rattle.level_calls.specs.Levels.{candidatesReply}
 use Rattle.c_answers.specs.Told.{listedCode, levelsAfter, listedCountAfter}
-use Rattle.c_leaves.proofs.Five.{second, third, fourth, fifth, candidates-written, candidates-kept}
+use Rattle.c_search.proofs.Five.{second, third, fourth, fifth, candidates-written, candidates-kept}
 use borrow.Author.Needs.{needs}
-use Rattle.c_leaves.proofs.rdoq_candidates.Statement.{statement}
-use Rattle.c_leaves.proofs.rdoq_candidates.Tie as tie
+use Rattle.c_search.proofs.candidates.rdoq_candidates.Statement.{statement}
+use Rattle.c_search.proofs.candidates.rdoq_candidates.Tie as tie
 
 returns : tie.Need-returns
 unfolding listedCode levelsAfter listedCountAfter
