@@ -102,7 +102,8 @@ uint32_t rdoq_fill_ready(uint32_t clusters, const uint8_t *map, size_t map_len, 
 /*
  * Writes every symbol price of a prefix code. depths has 128 bytes a cluster, singles a byte a cluster: not 0 where the cluster's
  * code has a single symbol. A depth of 0 costs 15.0 (strict: +infinity); any other depth costs itself, or 0.0 where the symbol is
- * the only one. Returns 0, or 1 or 2 and writes nothing.
+ * the only one. A cluster whose 128 depths are all 0 costs 15.0 throughout, strict or not: it was absent where the code was trained,
+ * and gets its words later. Returns 0, or 1 or 2 and writes nothing.
  */
 uint32_t rdoq_prefix_symbol_bits(uint32_t clusters, const uint8_t *depths, size_t depths_len, const uint8_t *singles,
                                  size_t singles_len, bool strict, float *symbols, size_t symbols_len);

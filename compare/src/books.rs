@@ -102,12 +102,19 @@ pub fn fill_ready(book: &mut Book) {
     }
 }
 
-/// Prices that the Rust makes from prefix codes. Strict: a symbol without a code costs +infinity.
 fn prefix_book(random: &mut Random, book: &mut Book, strict: bool) {
     let codes: Vec<PrefixCode> = (0..book.clusters).map(|_| prefix_code(random)).collect();
-    crate::entropy::entropy_code::door::from_prefix(book, codes.clone());
+    price_prefix(book, &codes, strict);
+}
+
+/// Prices that the Rust makes from prefix codes. Strict: a symbol without a word costs +infinity, where its cluster has a word.
+pub fn price_prefix(book: &mut Book, codes: &[PrefixCode], strict: bool) {
+    crate::entropy::entropy_code::door::from_prefix(book, codes.to_vec());
     if strict {
-        for (row, code) in book.symbols.chunks_mut(128).zip(&codes) {
+        for (row, code) in book.symbols.chunks_mut(128).zip(codes) {
+            if code.depths == [0; 128] {
+                continue;
+            }
             for (price, depth) in row.iter_mut().zip(code.depths) {
                 if depth == 0 {
                     *price = f32::INFINITY;
@@ -118,9 +125,12 @@ fn prefix_book(random: &mut Random, book: &mut Book, strict: bool) {
     }
 }
 
-/// Depths of a code that exists: each is the logarithm of total over frequency, rounded up.
-fn prefix_code(random: &mut Random) -> PrefixCode {
+/// Depths of a code that exists: each is the logarithm of total over frequency, rounded up. Some have no word at all.
+pub fn prefix_code(random: &mut Random) -> PrefixCode {
     let mut depths = [0; 128];
+    if random.once_in(12) {
+        return PrefixCode { depths, single_symbol: random.once_in(2) };
+    }
     if random.once_in(12) {
         let any = random.below(128);
         depths[random.pick(&[0, 0, 1, any])] = 1;

@@ -1,6 +1,7 @@
 //! Whole block files: those that end in a record that can't be read, and the fixed list of answers.
 
 use crate::data::{Block, Book, Search, SEARCHES};
+use crate::entropy::prefix_code::PrefixCode;
 use crate::judge::{due, Original};
 use crate::plain::{Problem, Rule, RULES};
 use crate::random::Random;
@@ -122,6 +123,9 @@ pub fn compare_unreadable(program: &str, seed: u64, files: u64) -> u64 {
     differences
 }
 
+/// The contexts of a count come first.
+const COUNT_CONTEXTS: usize = 37 * 30;
+
 /// How many blocks of each class the fixed list takes.
 const LISTED: [(usize, usize); 7] = [(1, 200), (2, 50), (4, 24), (8, 12), (16, 6), (32, 4), (64, 4)];
 
@@ -174,8 +178,24 @@ fn one_cluster(symbols: impl Fn(usize) -> f32) -> Book {
     book
 }
 
-/// Document 01's examples of a search: an all-zero block, every symbol at price 1 and then at +infinity; and a block with coefficients that
-/// are not numbers between two good ones.
+/// A strict prefix code of two clusters, in which nobody trained the second, of the counts. `later` says that it gets its words later; else every depth 0 costs
+/// +infinity, there too.
+fn untrained(later: bool) -> Book {
+    let map = (0..14850).map(|context| u8::from(context < COUNT_CONTEXTS)).collect();
+    let mut book = Book { clusters: 2, map, configs: vec![4, 2, 0, 4, 2, 0], ..Book::default() };
+    let mut codes = vec![PrefixCode { depths: [0; 128], single_symbol: false }; 2];
+    codes[0].depths[..32].fill(5);
+    books::price_prefix(&mut book, &codes, true);
+    if !later {
+        book.symbols[128..].fill(f32::INFINITY);
+        books::fill_ready(&mut book);
+    }
+    book
+}
+
+/// Examples of a search: of document 01 an all-zero block, every symbol at price 1 and then at +infinity, and a block with coefficients that are not numbers
+/// between two good ones; and two blocks whose counts lie in a cluster that nobody trained, which the trellis refused with 15 while that cluster cost
+/// +infinity throughout.
 fn examples() -> Vec<(Book, Vec<Block>)> {
     let zeros = Block { lambda: 3.0, channel: 1, ..blocks::empty_block() };
     let mut good = zeros.clone();
@@ -185,8 +205,10 @@ fn examples() -> Vec<(Book, Vec<Block>)> {
     failed.source[3..5].fill(f32::NAN);
     vec![
         (one_cluster(|_| 1.0), vec![zeros.clone()]),
-        (one_cluster(|_| f32::INFINITY), vec![zeros]),
-        (one_cluster(|symbol| 0.5 + 0.25 * symbol as f32), vec![good.clone(), failed, good]),
+        (one_cluster(|_| f32::INFINITY), vec![zeros.clone()]),
+        (one_cluster(|symbol| 0.5 + 0.25 * symbol as f32), vec![good.clone(), failed, good.clone()]),
+        (untrained(false), vec![zeros.clone(), good.clone()]),
+        (untrained(true), vec![zeros, good]),
     ]
 }
 

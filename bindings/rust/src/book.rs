@@ -125,7 +125,7 @@ impl Book {
 pub enum Pricing {
     /// 15 bits.
     Lenient,
-    /// +infinity: such a symbol can't be written.
+    /// +infinity: such a symbol can't be written. A cluster with no word at all was merely absent where the code was trained; its symbols cost 15 bits.
     Strict,
 }
 
@@ -183,6 +183,7 @@ impl BookBuilder {
     }
 
     /// Prices the symbols by a prefix code: 128 depths for each cluster, and a byte for each cluster that is not 0 where its code has a single symbol.
+    /// A depth costs itself, or 0.0 where it is the only one; [`Pricing`] says what a depth of 0 costs. A cluster whose depths are all 0 costs 15 bits throughout.
     pub fn prefix_code(mut self, depths: &[u8], singles: &[u8], pricing: Pricing) -> Result<BookBuilder, Refusal> {
         let mut symbols = vec![0.0; SYMBOLS * self.configs.len() / 3];
         // SAFETY: each pointer comes with the length of its slice; only `symbols` is written.

@@ -77,6 +77,13 @@ fn a_book_from_a_prefix_code() {
         // the second cluster's code has a single symbol
         assert_eq!(book.symbols()[SYMBOLS + 2..SYMBOLS + 4], [lacking, 0.0]);
     }
+    // a cluster without a word costs 15 throughout, strict or not, whatever its flag
+    depths[SYMBOLS + 3] = 0;
+    for (pricing, lacking) in [(Pricing::Lenient, 15.0), (Pricing::Strict, f32::INFINITY)] {
+        let book = two.clone().prefix_code(&depths, &[0, 5], pricing).unwrap().fill().unwrap();
+        assert_eq!(book.symbols()[..3], [1.0, 9.0, lacking]);
+        assert_eq!(book.symbols()[SYMBOLS..], [15.0; SYMBOLS]);
+    }
     assert_eq!(two.clone().prefix_code(&depths[1..], &[0, 0], Pricing::Strict).unwrap_err(), Refusal::BookLength);
     assert_eq!(two.prefix_code(&depths, &[0], Pricing::Strict).unwrap_err(), Refusal::BookLength);
     let none = BookBuilder::new(vec![0; CONTEXTS], &[]);

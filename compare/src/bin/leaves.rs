@@ -44,6 +44,10 @@ extern "C" {
     fn rdoq_distortion_weight(index: u32, length: u32, distance: f32, weight: *mut f32) -> u32;
     fn rdoq_candidates(ideal: f32, current: i32, restore: bool, levels: *mut i32, levels_len: usize, count: *mut u32) -> u32;
     fn rdoq_window_len(covered: u32, length: *mut usize, restoring: *mut usize) -> u32;
+    fn rdoq_prefix_symbol_bits(
+        clusters: u32, depths: *const u8, depths_len: usize, singles: *const u8, singles_len: usize, strict: bool, symbols: *mut f32,
+        symbols_len: usize,
+    ) -> u32;
     fn rdoq_token_bits(
         clusters: u32, map: *const u8, map_len: usize, configs: *const u8, configs_len: usize, symbols: *const f32, symbols_len: usize,
         ready: *const f32, ready_len: usize, context: u32, value: u32, bits: *mut f32,
@@ -233,6 +237,31 @@ fn candidates() -> Tally {
     tally
 }
 
+/// Lenient prices are the Rust's; strict ones too, with +infinity for the depths 0 of each cluster that has a word.
+fn prefix_prices() -> Tally {
+    let mut tally = Tally::new("prefix_symbol_bits", "4,000 drawn codes, strict and not, some clusters without a word");
+    let mut random = Random::of(&[23]);
+    for made in 0..4000 {
+        let clusters = 1 + if random.once_in(20) { random.below(256) } else { random.below(8) };
+        let codes: Vec<_> = (0..clusters).map(|_| books::prefix_code(&mut random)).collect();
+        let depths: Vec<u8> = codes.iter().flat_map(|code| code.depths).collect();
+        let singles: Vec<u8> = codes.iter().map(|code| if code.single_symbol { random.pick(&[1, 2, 255]) } else { 0 }).collect();
+        for strict in [false, true] {
+            let mut book = data::Book { clusters: clusters as u32, map: vec![0; 14850], configs: [4, 2, 0].repeat(clusters), ..data::Book::default() };
+            books::price_prefix(&mut book, &codes, strict);
+            let mut ours = vec![f32::NAN; 128 * clusters];
+            let code = unsafe {
+                rdoq_prefix_symbol_bits(
+                    book.clusters, depths.as_ptr(), depths.len(), singles.as_ptr(), singles.len(), strict, ours.as_mut_ptr(), ours.len(),
+                )
+            };
+            let bits = |prices: &[f32]| prices.iter().map(|price| price.to_bits()).collect::<Vec<_>>();
+            tally.hold((code, bits(&ours)), (0, bits(&book.symbols)), (made, strict));
+        }
+    }
+    tally
+}
+
 fn price_calls() -> Tally {
     let mut tally = Tally::new("token_bits, token_bits_pair", "all values, each in a drawn context, in 30 books");
     let mut random = Random::of(&[19]);
@@ -269,7 +298,7 @@ fn price_calls() -> Tally {
 }
 
 fn main() {
-    let parts = [packing, splitting, block_contexts, count_contexts, coefficient_contexts, levels, weights, candidates, price_calls];
+    let parts = [packing, splitting, block_contexts, count_contexts, coefficient_contexts, levels, weights, candidates, prefix_prices, price_calls];
     let mut differences = 0;
     for part in parts {
         let tally = part();

@@ -1,3 +1,4 @@
 pub mod Painted
 pub mod Filled
+pub mod Trained
 pub mod Prefixed

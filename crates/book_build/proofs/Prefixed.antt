@@ -13,12 +13,12 @@ use Rattle.prices.specs.Book.{at}
 use Rattle.prices.specs.Checks.{each, symbolPrice, allPriced}
 use Rattle.prices.proofs.Each.{each-all, each-below}
 use Rattle.book_build.specs.Paint.{paint}
-use Rattle.book_build.specs.Prefix.{Prefix, prefixEntry, rowEntry, singleOf, unseenPrice, depthPrice, prefixRefusal, prefixSymbols}
+use Rattle.book_build.specs.Prefix.{Prefix, prefixEntry, rowEntry, singleOf, trained, unseenPrice, depthPrice, prefixRefusal, prefixSymbols}
 use Rattle.book_build.proofs.Painted.{paint-length, paint-run, paint-same, paint-at}
 
 -- one more row
 pub row-after : (p : Prefix) (k : ℕ) (unseen : Float) (single : Bool) (xs ys zs : List Float)
-    → unseen ≡ unseenPrice (p .strict) → single ≡ singleOf (p .singles) k
+    → unseen ≡ unseenPrice (p .strict && trained (p .depths) k) → single ≡ singleOf (p .singles) k
     → ys ≡ paint (prefixEntry p) 0 (128 * k) xs → zs ≡ paint (rowEntry unseen single (p .depths)) (128 * k) 128 ys
     → zs ≡ paint (prefixEntry p) 0 (128 * (k + 1)) xs
 unfolding prefixEntry
@@ -26,7 +26,11 @@ row-after p k unseen single xs ys zs eu es ey ez =
     ez
     ∙ ap (paint (rowEntry unseen single (p .depths)) (128 * k) 128) ey
     ∙ paint-same (rowEntry unseen single (p .depths)) (prefixEntry p) (128 * k) 128 (paint (prefixEntry p) 0 (128 * k) xs)
-    (λ i h. ap₂ (λ (u : Float) (s : Bool). rowEntry u s (p .depths) (128 * k + i)) eu (es ∙ ap (singleOf (p .singles)) (omega arith)))
+    (λ i h.
+    let same : k ≡ (128 * k + i) / 128 = omega arith in
+    ap₂ (λ (u : Float) (s : Bool). rowEntry u s (p .depths) (128 * k + i))
+    (eu ∙ ap (λ (n : ℕ). unseenPrice (p .strict && trained (p .depths) n)) same)
+    (es ∙ ap (singleOf (p .singles)) same))
     ∙ paint-run (prefixEntry p) (128 * k) 128 xs
     ∙ ap (λ (n : ℕ). paint (prefixEntry p) 0 n xs) (omega arith)
 
@@ -95,7 +99,7 @@ depth-passes unseen ok single n h = go (eqb n 0) single
     go false true = refl
     go false false = each-below (λ k. symbolPrice (ofInt binary32 (pos k))) 256 depths-pass n h
 
-unseen-passes : (strict : Bool) → symbolPrice (unseenPrice strict) ≡ true
+unseen-passes : (never : Bool) → symbolPrice (unseenPrice never) ≡ true
 unfolding unseenPrice symbolPrice le lt eq
 unseen-passes true = refl
 unseen-passes false = refl
@@ -110,4 +114,4 @@ built-passes p xs bytes e =
     (λ i h.
     subst (λ (x : Float). symbolPrice x ≡ true)
     (sym (ap (λ (l : List Float). at l i) w ∙ paint-at (prefixEntry p) (128 * p .clusters) xs nan i (omega (arith, right-length p xs e)) (omega (arith, right-length p xs e))))
-    (depth-passes (unseenPrice (p .strict)) (unseen-passes (p .strict)) (singleOf (p .singles) (i / 128)) (getD (p .depths) i 0) (bytes i)))
+    (depth-passes _ (unseen-passes (p .strict && trained (p .depths) (i / 128))) (singleOf (p .singles) (i / 128)) (getD (p .depths) i 0) (bytes i)))

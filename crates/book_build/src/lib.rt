@@ -1,5 +1,6 @@
 // Filling the ready prices of a book, and symbol prices from a prefix code (document 01, module 4).
 ghost use mathlib.Core.Path.{_≡_};
+ghost use mathlib.Core.Bool.{_&&_};
 ghost use Prim.Native.Nat.{ℕ, _≤_, _<_, _+_, _*_};
 ghost use lib.ListN.{length};
 ghost use Rattle.prices.specs.Book.{bookOf, clusterValid};
@@ -7,7 +8,7 @@ ghost use Rattle.prices.specs.Checks.{fillRefusal};
 ghost use Rattle.book_rows.specs.Row.{Row};
 ghost use Rattle.book_build.specs.Paint.{paint};
 ghost use Rattle.book_build.specs.Fill.{readyEntry, filledReady};
-ghost use Rattle.book_build.specs.Prefix.{prefixOf, depthPrice, unseenPrice, singleOf, prefixEntry, rowEntry, prefixRefusal, prefixSymbols};
+ghost use Rattle.book_build.specs.Prefix.{prefixOf, depthPrice, trained, unseenPrice, singleOf, prefixEntry, rowEntry, prefixRefusal, prefixSymbols};
 
 fn write_ready(clusters: usize, configs: &[u8], symbols: &[f32], ready: &mut [f32])
     requires { ⌜ ((k : ℕ) → k < clusters → Row (now configs) (now symbols) (now ready) k) ⌝ }
@@ -54,11 +55,31 @@ fn depth_price(unseen: f32, single: bool, depth: u8) -> f32
     depth as f32
 }
 
-fn unseen_price(strict: bool) -> f32
-    ensures { λ r. ⌜ r ≡ unseenPrice strict ⌝ }
+// Whether a cluster has a word. Most do, and show it within a few depths.
+fn is_trained(depths: &[u8], cluster: usize) -> bool
+    requires { ⌜ 128 * cluster + 128 ≤ length (now depths) ⌝ }
+    ensures { λ r. ⌜ r ≡ trained (now (depths .entry)) cluster ⌝ }
+{
+    let from = 128 * cluster;
+    let mut j = 0;
+    while j < 128 {
+        if depths[from + j] != 0 {
+            return true;
+        }
+        j += 1;
+    }
+    false
+}
+
+// What a symbol without a word costs in a cluster.
+fn unseen_price(strict: bool, depths: &[u8], cluster: usize) -> f32
+    requires { ⌜ 128 * cluster + 128 ≤ length (now depths) ⌝ }
+    ensures { λ r. ⌜ r ≡ unseenPrice (strict && trained (now (depths .entry)) cluster) ⌝ }
 {
     if strict {
-        return costs::infinity();
+        if is_trained(depths, cluster) {
+            return costs::infinity();
+        }
     }
     15.0
 }
@@ -85,10 +106,10 @@ fn write_rows(clusters: usize, strict: bool, depths: &[u8], singles: &[u8], symb
     requires { ⌜ length (now symbols) ≡ 128 * clusters ⌝ }
     ensures { λ r. ⌜ now (symbols .exit) ≡ paint (prefixEntry (prefixOf clusters (now (depths .entry)) (now (singles .entry)) strict)) 0 (128 * clusters) (now (symbols .entry)) ⌝ }
 {
-    let unseen = unseen_price(strict);
     let mut k = 0;
     while k < clusters {
         let single = singles[k] != 0;
+        let unseen = unseen_price(strict, depths, k);
         write_row(unseen, single, depths, symbols, k);
         k += 1;
     }

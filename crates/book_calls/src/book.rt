@@ -34,7 +34,8 @@ pub fn fill_ready(
 }
 
 // Writes every symbol price of a prefix code, and answers 0. Otherwise answers 1 or 2, for its own lengths, and writes nothing. There are 128 depths a cluster,
-// and a byte that is not 0 where the cluster's code has a single symbol. Strict pricing makes a symbol that the code lacks cost +infinity.
+// and a byte that is not 0 where the cluster's code has a single symbol. A symbol that the code lacks costs 15.0, or +infinity under strict pricing; in a cluster
+// without a word every symbol costs 15.0, strict or not.
 pub fn prefix_symbol_bits(
     clusters: u32,
     depths: &[u8],
