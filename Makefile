@@ -60,6 +60,8 @@ bindings: library
 	@if command -v gcc > /dev/null; then \
 	    $(CC_STRICT) -o target/example_c bindings/c/example.c $(STATICLIB) -lm && target/example_c && \
 	    $(CC_STRICT) -o target/quick_start_c bindings/c/quick_start.c $(STATICLIB) && target/quick_start_c && \
+	    $(CC_STRICT) -o target/rounding_c bindings/c/rounding.c $(STATICLIB) -lm && target/rounding_c && \
+	    $(CC_STRICT) -pthread -o target/stack_c bindings/c/stack.c $(STATICLIB) && target/stack_c && \
 	    echo 'bindings: the C programs answer as they should'; \
 	else echo 'bindings: no gcc here: the C programs are left out'; fi
 	@if command -v cargo > /dev/null; then \
