@@ -17,7 +17,9 @@
  * The arrays and variables that a call writes to overlap nothing else that it is lent. A bool is 0 or 1. These are the only duties
  * of a caller: wrong lengths and wrong contents are refused by number.
  *
- * Refusals. The lowest number that applies is returned.
+ * Refusals. The first check that fails is answered. A search makes its checks in this order: `search` names one (17), 1 to 9, 18,
+ * 10 to 14; then the trellis may find 15, the beam 16. The builder of a prefix code makes 1 and 2, rdoq_fill_ready 1 to 5. The
+ * leaf and price calls make 17 alone.
  *
  *    1  the map is not 14,850 bytes, or the clusters are not 1 to 256
  *         Lend a byte for each context; name 1 to 256 clusters.
@@ -53,6 +55,9 @@
  *         Give finite prices to the symbols that the block needs, or keep the block as it is: no level was changed.
  *   17  an argument lies outside the call's domain, or `search` names none
  *         See the comment over the call.
+ *   18  the product of the sides is not what ISO/IEC 18181-1 gives for the strategy (codes 0-3, 12-17: 1; 6, 7: 2; 4, 8, 9: 4;
+ *       10, 11: 8; 5: 16; 19, 20: 32; 18: 64; 22, 23: 128; 21: 256; 25, 26: 512; 24: 1,024)
+ *         Pass the strategy and the sides of one block. Which side is the longer does not matter.
  */
 #ifndef RDOQ_H
 #define RDOQ_H

@@ -1,6 +1,6 @@
 //! Blocks by seed, all of them in the domain that checks 7 to 13 leave.
 
-use crate::data::{window, Block};
+use crate::data::{strategies, window, Block};
 use crate::random::Random;
 use crate::scans::{natural, shuffled};
 
@@ -61,7 +61,7 @@ pub fn random_block(random: &mut Random, c: usize) -> Block {
     let mut block = Block {
         cx,
         cy,
-        strategy: random.below(27) as u8,
+        strategy: random.pick(&strategies(c)),
         channel: random.below(3) as u8,
         quant_class: random.once_in(2),
         predicted: if random.once_in(3) { random.below(256) as u8 } else { random.below(70) as u8 },

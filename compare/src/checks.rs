@@ -1,6 +1,6 @@
-//! Document 01's checks 1 to 14, each a plain test, the lowest number that applies answered.
+//! Document 01's checks 1 to 14 and document 02's 18, each a plain test, in the order in which they are made: 18 comes straight after 9.
 
-use crate::data::{window, Block, Book, Search};
+use crate::data::{strategy_covers, window, Block, Book, Search};
 
 /// 0, or the number of the first check that fails.
 pub fn refusal(search: Search, book: &Book, block: &Block) -> u32 {
@@ -49,7 +49,7 @@ pub fn config_passes(s: u8, m: u8, l: u8) -> bool {
     s <= 6 && sum <= s && 2u32.pow(s) + (17 - s) * 2u32.pow(sum) <= 128
 }
 
-/// Checks 7 to 14: 0, or the first that fails.
+/// Checks 7 to 14 and 18: 0, or the first that fails.
 fn block_refusal(search: Search, block: &Block) -> u32 {
     let side = |n: u32| [1, 2, 4, 8, 16, 32].contains(&n);
     if !side(block.cx) || !side(block.cy) {
@@ -62,6 +62,9 @@ fn block_refusal(search: Search, block: &Block) -> u32 {
     }
     if block.strategy > 26 || block.channel > 2 {
         return 9;
+    }
+    if strategy_covers(block.strategy) != c {
+        return 18;
     }
     if !settings_pass(block) {
         return 10;

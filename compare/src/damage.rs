@@ -1,4 +1,4 @@
-//! Inputs with one or two faults each, for the checks 1 to 14 and their order. A fault may also be none: the limits
+//! Inputs with one or two faults each, for the checks 1 to 14 and 18 and their order. A fault may also be none: the limits
 //! themselves are among the values.
 
 use crate::data::{Block, Book};
@@ -94,7 +94,10 @@ fn damage_block(random: &mut Random, block: &mut Block) {
         3 => resize(random, &mut block.scan),
         4 => resize(random, &mut block.source),
         5 => resize(random, &mut block.inverse),
-        6 => block.strategy = random.pick(&[27, 26, 255]),
+        6 => {
+            let any = random.below(27) as u8;
+            block.strategy = random.pick(&[27, 255, any, any]);
+        }
         7 => block.channel = random.pick(&[3, 255, 2]),
         8 => block.lambda = limit(random, 2f32.powi(-20), 2f32.powi(20)),
         9 => block.penalty = limit(random, 2f32.powi(-10), 2f32.powi(10)),

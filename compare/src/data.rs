@@ -66,6 +66,29 @@ impl std::fmt::Display for Reply {
     }
 }
 
+/// How many 8×8 blocks a varblock of this strategy code covers (ISO/IEC 18181-1).
+pub fn strategy_covers(code: u8) -> usize {
+    match code {
+        0..=3 | 12..=17 => 1,
+        6 | 7 => 2,
+        4 | 8 | 9 => 4,
+        10 | 11 => 8,
+        5 => 16,
+        19 | 20 => 32,
+        18 => 64,
+        22 | 23 => 128,
+        21 => 256,
+        25 | 26 => 512,
+        24 => 1024,
+        _ => 0,
+    }
+}
+
+/// The strategy codes of c covered blocks.
+pub fn strategies(c: usize) -> Vec<u8> {
+    (0..27).filter(|&code| strategy_covers(code) == c).collect()
+}
+
 /// The length of the window and the part of it that may be restored, for c covered blocks.
 pub fn window(c: usize) -> (usize, usize) {
     if c == 1 {

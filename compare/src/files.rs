@@ -145,7 +145,7 @@ fn listed(seed: u64) -> Vec<(usize, u64)> {
         list.extend(numbers.map(|index| (class, index)));
     }
     // Of the damaged inputs the first two that each check refuses.
-    for number in 1..=14 {
+    for number in (1..=14).chain([18]) {
         let refused = |&index: &u64| {
             let (book, block) = made(seed, 0, index);
             small(0, index) && checks::refusal(Search::Trellis, &book, &block) == number

@@ -6,6 +6,7 @@ mod books;
 mod checks;
 mod damage;
 mod data;
+mod exact;
 mod files;
 mod judge;
 mod plain;

@@ -73,7 +73,7 @@ pub const HEADER: &str =
 
 pub const LEGEND: &str = "\
 compared: the levels with the Rust's, cost and count with the definition's for them. with ties, changed, with a half: of these, where a search met equal costs, changed a level, or may
-restore an ideal that is an exact half. not compared: refused by one of checks 1 to 14, which narrow the Rust's domain, or by 15, where the Rust has no answer; held to the number and to an
+restore an ideal that is an exact half. not compared: refused by one of checks 1 to 14 and 18, which narrow the Rust's domain, or by 15, where the Rust has no answer; held to the number and to an
 untouched block. 16: the Rust left the block too.";
 
 pub fn row(class: &str, tally: &Tally, left_out: &[Search]) -> String {

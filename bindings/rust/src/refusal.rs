@@ -49,9 +49,11 @@ pub enum Refusal {
     PathsInfinite = 16,
     /// An argument lies outside the call's domain.
     Domain = 17,
+    /// The product of the block's sides is not the strategy's.
+    Sides = 18,
 }
 
-const ALL: [Refusal; 17] = [
+const ALL: &[Refusal] = &[
     Refusal::MapLength,
     Refusal::BookLength,
     Refusal::MapEntry,
@@ -69,6 +71,7 @@ const ALL: [Refusal; 17] = [
     Refusal::BandInfinite,
     Refusal::PathsInfinite,
     Refusal::Domain,
+    Refusal::Sides,
 ];
 
 impl Refusal {
@@ -77,9 +80,9 @@ impl Refusal {
         self as u8
     }
 
-    /// The refusal with a number of 1 to 17.
+    /// The refusal with this number, if there is one.
     pub fn from_number(number: u8) -> Option<Refusal> {
-        ALL.into_iter().find(|r| r.number() == number)
+        ALL.iter().copied().find(|r| r.number() == number)
     }
 
     fn remedy(self) -> &'static str {
@@ -101,6 +104,7 @@ impl Refusal {
             Refusal::BandInfinite => "every choice in the trellis's band needs a token of infinite price: give finite prices to the symbols that the block needs",
             Refusal::PathsInfinite => "every path that the beam kept ended at an infinite cost: give finite prices to the symbols that the block needs",
             Refusal::Domain => "an argument lies outside the call's domain: the call's documentation gives it",
+            Refusal::Sides => "the product of the sides is not what the strategy covers (a 16x16 transform covers 2 by 2 units of 8 samples): pass the strategy and the sides of one block",
         }
     }
 }

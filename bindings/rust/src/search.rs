@@ -28,7 +28,7 @@ pub struct Shape {
     pub cx: u32,
     /// The other side.
     pub cy: u32,
-    /// The strategy code, at most 26.
+    /// The strategy code, at most 26. The product of the sides must be what it covers; which side is the longer does not matter.
     pub strategy: u8,
     /// X = 0, Y = 1, B = 2.
     pub channel: u8,
@@ -145,7 +145,7 @@ pub struct Answer {
 
 /// Re-picks the levels of a block, in place.
 ///
-/// A refused block keeps every level. After refusals 1 to 14 the room is as it was too.
+/// A refused block keeps every level. After every refusal but 15 and 16 the room is as it was too.
 ///
 /// ```
 /// use rdoq::{rdoq_block, Bias, Block, BookBuilder, Room, Search, Settings, Shape, CONTEXTS, SYMBOLS};

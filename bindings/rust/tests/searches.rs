@@ -232,6 +232,11 @@ fn wrong_blocks_are_refused() {
     but(|g| g.shape.cx = 2).refused(Refusal::BlockLength);
     but(|g| g.shape.strategy = 27).refused(Refusal::Strategy);
     but(|g| g.shape.channel = 3).refused(Refusal::Strategy);
+    but(|g| g.shape.strategy = 4).refused(Refusal::Sides);
+    but(|g| g.shape.strategy = 26).refused(Refusal::Sides);
+    // 18 comes straight after 9 and before 10.
+    but(|g| (g.shape.strategy, g.shape.channel) = (4, 3)).refused(Refusal::Strategy);
+    but(|g| (g.shape.strategy, g.settings.lambda) = (4, 0.0)).refused(Refusal::Sides);
     but(|g| g.settings.lambda = 0.0).refused(Refusal::Settings);
     but(|g| g.settings.lambda = f32::NAN).refused(Refusal::Settings);
     but(|g| g.settings.penalty = 2_000.0).refused(Refusal::Settings);

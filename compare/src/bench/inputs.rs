@@ -1,6 +1,6 @@
 //! The books and blocks that are measured on. Each is named by its numbers, so that both sides, and a child process, get the same.
 
-use crate::data::{window, Block, Book, Search};
+use crate::data::{strategies, window, Block, Book, Search};
 use crate::entropy::token::{uint_encode_with_config, HybridUintConfig};
 use crate::random::Random;
 use crate::scans;
@@ -57,7 +57,7 @@ fn zeros(c: usize) -> Block {
     let n = 64 * c;
     let side = 1u32 << (c.ilog2() / 2);
     Block {
-        cx: side, cy: c as u32 / side, strategy: 0, channel: 1, quant_class: false, predicted: 20, channel_weight: 1.0, lambda: 0.25,
+        cx: side, cy: c as u32 / side, strategy: strategies(c)[0], channel: 1, quant_class: false, predicted: 20, channel_weight: 1.0, lambda: 0.25,
         penalty: 1.5, distance: 1.0, one: 0.945, numerator: 0.145, scale: 1.0, choices: 0, rows: [0; 2], levels: vec![0; n],
         scan: scans::natural(side as usize, c / side as usize), source: vec![0.0; n], inverse: vec![1.0; n],
     }

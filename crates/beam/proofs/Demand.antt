@@ -21,7 +21,7 @@ use Rattle.least_cost.specs.Choice.{Choice, remaining}
 use Rattle.least_cost.specs.Search.{countOf, wholeCost}
 use Rattle.prices.specs.Book.{Book}
 use Rattle.prices.specs.Checks.{bookRefusal}
-use Rattle.problem.proofs.Refusals.{search-few, searched}
+use Rattle.problem.proofs.Refusals.{NoOutcome, search-number, searched}
 use Rattle.problem.proofs.Written.{put-window, put-choice}
 use Rattle.scan.specs.Scan.{put}
 use Rattle.weights.specs.Window.{windowOf}
@@ -116,9 +116,9 @@ module _ (book : Book) (b : Block) (choices : List ℕ) where
       let s = searched book b _ e in
       (s .0, s .1 .0)
 
-  refusal-few : refusal book b choices ≤ 14
+  refusal-number : NoOutcome (refusal book b choices)
   unfolding refusal
-  refusal-few = search-few book b _
+  refusal-number = search-number book b _
 
   refused-16 : RefusedExactly book b choices (cond (eqb (refusal book b choices) 0) (answered book b) (Refused (refusal book b choices)))
   refused-16 = (λ e. only (eqb (refusal book b choices) 0) refl e, λ h. rw (eq-eqb (refusal book b choices) 0 (h .0)) (refused-where book b (passed-all (h .0) .0) (passed-all (h .0) .1) (h .1)))
@@ -130,7 +130,7 @@ module _ (book : Book) (b : Block) (choices : List ℕ) where
           (z, refused-only book b (passed-all z .0) (passed-all z .1) e)
       only false h e =
           let bad : refusal book b choices ≡ 16 = cc in
-          absurd (omega (arith, refusal-few))
+          absurd (refusal-number .not-16 bad)
 
   kept-answered : KeptAnswered book b (cond (eqb (refusal book b choices) 0) (written book b) (b .levels)) (cond (eqb (refusal book b choices) 0) (answered book b) (Refused (refusal book b choices)))
   kept-answered x n e = go (eqb (refusal book b choices) 0) refl e

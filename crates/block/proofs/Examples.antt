@@ -1,17 +1,20 @@
 -- What document 01 says of tokens, rates, `prev` and counts, of the definitions: by computing them. Assumes nothing.
-use Prim.Native.Nat.{ℕ, suc}
+use Prim.Native.Nat.{ℕ, suc, _*_}
 use mathlib.Core.Path.{_≡_, refl}
-use mathlib.Core.Bool.{false}
+use mathlib.Core.Bool.{true, false}
 use mathlib.Core.List.{List, [], _∷_, map}
 use lib.IntN.{ℤ, pos}
 use lib.ListN.{replicate}
 use lib.Ieee.{Float, nan, fin, mul}
+use Rattle.ac_context.specs.Contexts.{isPowerBelow}
+use Rattle.laws.specs.Refusals.{firstRefused}
 use Rattle.least_cost.specs.Position.{nz}
 use Rattle.least_cost.specs.Search.{upFrom}
 use Rattle.prices.specs.Book.{Book}
 use Rattle.scan.specs.Scan.{levelAt}
 use Rattle.weights.specs.Window.{windowOf}
 use Rattle.block.specs.Block.{Block, blockOf, covered, inputAt, nonzerosAmong, inputRemaining}
+use Rattle.block.specs.Checks.{check7, check8, check9, check18, strategyCovered, formChecks, blockRefusal}
 use Rattle.block.specs.Cost.{distortion, rate, localCost, tokensFrom, firstPrev}
 use Rattle.block.specs.Band.{halfWidth, inputAfter, positionAt, pastWindow, fewestCount, mostCount}
 
@@ -65,3 +68,24 @@ pub band-of-eight :
     ≡ 1 ∷ 0 ∷ 0 ∷ []
 unfolding positionAt inputAfter inputRemaining nonzerosAmong levelAt covered nz upFrom
 band-of-eight = refl
+
+-- one block's numbers under a strategy code and sides; every list holds 64 times the product of the sides
+abbrev shaped : ℕ → ℕ → ℕ → Block
+shaped strategy cx cy =
+    blockOf (record { cx = cx; cy = cy; strategy = strategy; channel = 1; «qf_hi» = false; predicted = 0 })
+    (small [] .settings)
+    (small [] .bias)
+    nan
+    (replicate (64 * (cx * cy)) 0)
+    (replicate (64 * (cx * cy)) nan)
+    (replicate (64 * (cx * cy)) nan)
+    (replicate (64 * (cx * cy)) (pos 0))
+
+-- The sides' product must be the strategy's, whichever side is the longer; a code that the standard does not have is refused as such.
+pub refused-sides : map (λ b. blockRefusal (windowOf 1) b 0) (shaped 4 1 1 ∷ shaped 27 1 1 ∷ []) ≡ 18 ∷ 9 ∷ []
+unfolding blockRefusal formChecks firstRefused check7 check8 check9 check18 strategyCovered covered isPowerBelow
+refused-sides = refl
+
+pub fitting-sides : map check18 (shaped 4 4 1 ∷ shaped 4 2 2 ∷ []) ≡ true ∷ true ∷ []
+unfolding check18 strategyCovered covered
+fitting-sides = refl

@@ -1,12 +1,14 @@
--- Checks 7 to 14 of document 01, in the order in which they are made.
+-- Checks 7 to 14 of document 01, with document 02's 18, in the order in which they are made.
 use Prim.Native.Nat.{ℕ, _+_, _-_, _*_}
 use mathlib.Core.Bool.{Bool, cond, _&&_}
+use mathlib.Core.List.{List, [], _∷_, _++_}
 use lib.Dec.{eqb, leb}
-use lib.ListN.{length}
+use lib.ListN.{length, getD}
 use Rattle.ac_context.specs.Contexts.{isPowerBelow}
 use Rattle.bias.specs.Level.{validBias}
 use Rattle.candidates.specs.Candidates.{isCurrent}
 use Rattle.candidates.specs.Nearest.{isIdeal}
+use Rattle.laws.specs.Refusals.{firstRefused}
 use Rattle.prices.specs.Book.{Book}
 use Rattle.prices.specs.Checks.{each, bookRefusal}
 use Rattle.scan.specs.Scan.{eachOnce}
@@ -28,6 +30,15 @@ check8 b =
 unfoldable pub check9 : Block → Bool
 check9 b = leb (b .shape .strategy) 26 && leb (b .shape .channel) 2
 
+-- ISO/IEC 18181-1: how many 8×8 blocks a varblock of each strategy code covers
+unfoldable pub strategyCovered : List ℕ
+strategyCovered =
+    1 ∷ 1 ∷ 1 ∷ 1 ∷ 4 ∷ 16 ∷ 2 ∷ 2 ∷ 4 ∷ 4 ∷ 8 ∷ 8 ∷ 1 ∷ 1 ∷ 1 ∷ 1 ∷ 1 ∷ 1 ∷ 64 ∷ 32 ∷ 32 ∷ 256 ∷ 128 ∷ 128 ∷ 1024 ∷ 512 ∷ 512 ∷ []
+
+-- the sides' product is the strategy's; which side is the longer does not matter
+unfoldable pub check18 : Block → Bool
+check18 b = eqb (covered b) (getD strategyCovered (b .shape .strategy) 0)
+
 unfoldable pub check10 : Block → Bool
 check10 b = validSettings (b .settings) && validBias (b .bias)
 
@@ -42,16 +53,19 @@ check12 b = each (63 * covered b) (λ i. isCurrent (inputAt b (covered b + i)))
 unfoldable pub check13 : Window → Block → Bool
 check13 v b = each (v .length) (λ i. isIdeal (ideal b i))
 
--- The number of the first check among 7 to 13 that a block fails, else what comes after them.
-unfoldable pub blockRefusal : Window → Block → ℕ → ℕ
-blockRefusal v b later =
-    cond (check7 b)
-    (cond (check8 b)
-    (cond (check9 b) (cond (check10 b) (cond (check11 b) (cond (check12 b) (cond (check13 v b) later 13) 12) 11) 10) 9)
-    8)
-    7
+-- The checks of a block in their order, each with its number: first what is known without a look into the buffers ..
+unfoldable pub formChecks : Block → List (Bool × ℕ)
+formChecks b = (check7 b, 7) ∷ (check8 b, 8) ∷ (check9 b, 9) ∷ (check18 b, 18) ∷ (check10 b, 10) ∷ []
 
--- The first refusal of a search among 1 to 14; 0 where there is none. `room`: check 14 passes.
+-- .. then what the buffers hold.
+unfoldable pub contentChecks : Window → Block → List (Bool × ℕ)
+contentChecks v b = (check11 b, 11) ∷ (check12 b, 12) ∷ (check13 v b, 13) ∷ []
+
+-- the number of the first check that a block fails, else what comes after them
+unfoldable pub blockRefusal : Window → Block → ℕ → ℕ
+blockRefusal v b later = firstRefused (formChecks b ++ contentChecks v b) later
+
+-- The first refusal of a search among checks 1 to 14 and 18; 0 where there is none. `room`: check 14 passes.
 unfoldable pub searchRefusal : Book → Block → Bool → ℕ
 searchRefusal book b room = cond (eqb (bookRefusal book) 0) (blockRefusal (windowOf (covered b)) b (cond room 0 14)) (bookRefusal book)
 

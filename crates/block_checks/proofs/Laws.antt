@@ -1,6 +1,7 @@
 -- What checks 7 to 13 leave a search with. Assumes nothing.
 use mathlib.Core.Path.{_≡_, refl, sym, _∙_}
 use mathlib.Core.Bool.{Bool, true, false, cond, _&&_}
+use mathlib.Core.List.{_++_}
 use Prim.Native.Nat.{ℕ, suc, _+_, _-_, _*_, _≤_, _<_, min}
 use native.Mathlib.Nat.{le-trans, le-min, min-le-left, min-le-right}
 use native.Mathlib.Omega.{arith}
@@ -11,10 +12,12 @@ use Rattle.ac_context.specs.Contexts.{isPowerBelow, Covered}
 use Rattle.ac_context.proofs.Bounds.{covered-some, covered-most}
 use Rattle.bias.specs.Level.{validBias}
 use Rattle.block.specs.Block.{Block, covered, inputAt, ideal}
-use Rattle.block.specs.Checks.{check7, check8, check9, check10, check11, check12, check13, blockRefusal, searchRefusal}
+use Rattle.block.specs.Checks.{check7, check8, check9, check18, check10, check11, check12, check13, formChecks, contentChecks, blockRefusal, searchRefusal}
 use Rattle.candidates.specs.Candidates.{isCurrent}
 use Rattle.candidates.specs.Nearest.{isIdeal}
 use Rattle.laws.proofs.Tests.{and-left, and-right}
+use Rattle.laws.proofs.Refused.{in-turn, refused-first, passes-first, all-pass, none-refused}
+use Rattle.laws.specs.Refusals.{firstRefused}
 use Rattle.prices.specs.Book.{Book}
 use Rattle.prices.specs.Checks.{bookRefusal}
 use Rattle.prices.proofs.Each.{each-below}
@@ -26,14 +29,10 @@ use Rattle.block_checks.specs.Parts.{formRefusal, contentRefusal}
 use Rattle.block_checks.specs.Passed.{Windowed, Passed}
 use Rattle.block_checks.proofs.Sides.{sides-covered}
 
-through : (t : Bool) (x n : ℕ) → cond t x (suc n) ≡ 0 → (t ≡ true) × (x ≡ 0)
-through true x n e = (refl, e)
-through false x n e = absurd (omega arith)
-
 is-true : {t : Bool} → t ≡ true → T t
 is-true e = rw e tt
 
--- checks 7 to 10
+-- checks 7 to 10, with 18
 pub record Formed (b : Block) : Type 0 where
   pub log2 : ℕ
   pub power : Covered (covered b) log2
@@ -45,6 +44,7 @@ pub record Formed (b : Block) : Type 0 where
   pub inverse-long : length (b .inverse) ≡ 64 * covered b
   pub strategy : b .shape .strategy ≤ 26
   pub channel : b .shape .channel ≤ 2
+  pub fitting : check18 b ≡ true
   pub settings : validSettings (b .settings) ≡ true
   pub bias : validBias (b .bias) ≡ true
 
@@ -62,13 +62,14 @@ parts8 b e =
     let q = and-left (l && s) o p in
     (eqb-true _ _ (and-left l s q), eqb-true _ _ (and-right l s q), eqb-true _ _ (and-right (l && s) o p), eqb-true _ _ (and-right (l && s && o) i e))
 
-pub formed : (b : Block) → formRefusal b 0 ≡ 0 → Formed b
-unfolding formRefusal check7 check9 check10 covered
+pub formed : (b : Block) → formRefusal b ≡ 0 → Formed b
+unfolding formRefusal formChecks check7 check9 check10 covered
 formed b e =
-    let t7 = through (check7 b) _ 6 e in
-    let t8 = through (check8 b) _ 7 (t7 .1) in
-    let t9 = through (check9 b) _ 8 (t8 .1) in
-    let t10 = through (check10 b) _ 9 (t9 .1) in
+    let t7 = passes-first (check7 b) 7 _ 0 refl e in
+    let t8 = passes-first (check8 b) 8 _ 0 refl (t7 .1) in
+    let t9 = passes-first (check9 b) 9 _ 0 refl (t8 .1) in
+    let t18 = passes-first (check18 b) 18 _ 0 refl (t9 .1) in
+    let t10 = passes-first (check10 b) 10 _ 0 refl (t18 .1) in
     let x = isPowerBelow 6 (b .shape .cx) in
     let y = isPowerBelow 6 (b .shape .cy) in
     let sides = sides-covered (b .shape .cx) (b .shape .cy) (and-left x y (t7 .0)) (and-right x y (t7 .0)) in
@@ -84,45 +85,28 @@ formed b e =
       inverse-long = long .3;
       strategy = leb-true _ _ (and-left (leb (b .shape .strategy) 26) (leb (b .shape .channel) 2) (t9 .0));
       channel = leb-true _ _ (and-right (leb (b .shape .strategy) 26) (leb (b .shape .channel) 2) (t9 .0));
+      fitting = t18 .0;
       settings = and-left (validSettings (b .settings)) (validBias (b .bias)) (t10 .0);
       bias = and-right (validSettings (b .settings)) (validBias (b .bias)) (t10 .0);
     }
 
--- the two parts make up the whole
-pub in-parts : (v : Window) (b : Block) (later : ℕ) → blockRefusal v b later ≡ formRefusal b (contentRefusal v b later)
-unfolding blockRefusal formRefusal contentRefusal
-in-parts v b later = refl
+-- the two parts make up the whole: where the first refuses, so does the whole ..
+pub form-first : (v : Window) (b : Block) {r : ℕ} → r ≡ formRefusal b → (r ≡ 0 → ⊥) → r ≡ blockRefusal v b 0
+unfolding blockRefusal formRefusal
+form-first v b e n =
+    e ∙ sym (in-turn (formChecks b) (contentChecks v b) 0 ∙ refused-first (formChecks b) (firstRefused (contentChecks v b) 0) (λ z. n (e ∙ z)))
 
--- where the first part refuses, so does the whole
-pub form-first : (b : Block) (later : ℕ) {r : ℕ} → r ≡ formRefusal b 0 → (r ≡ 0 → ⊥) → r ≡ formRefusal b later
-unfolding formRefusal
-form-first b later {r} e n = go (check7 b) (check8 b) (check9 b) (check10 b) e
-  where
-    go : (a b c d : Bool) → r ≡ cond a (cond b (cond c (cond d 0 10) 9) 8) 7 → r ≡ cond a (cond b (cond c (cond d later 10) 9) 8) 7
-    go false b c d e = e
-    go true false c d e = e
-    go true true false d e = e
-    go true true true false e = e
-    go true true true true e = absurd (n e)
+-- .. where it passes, the second decides ..
+pub form-passed : (v : Window) (b : Block) → formRefusal b ≡ 0 → blockRefusal v b 0 ≡ contentRefusal v b
+unfolding blockRefusal formRefusal contentRefusal formChecks
+form-passed v b e = in-turn (formChecks b) (contentChecks v b) 0 ∙ all-pass (formChecks b) (firstRefused (contentChecks v b) 0) refl e
 
-pub form-passed : (b : Block) (later : ℕ) → formRefusal b 0 ≡ 0 → formRefusal b later ≡ later
-unfolding formRefusal
-form-passed b later e =
-    let t7 = through (check7 b) _ 6 e in
-    let t8 = through (check8 b) _ 7 (t7 .1) in
-    let t9 = through (check9 b) _ 8 (t8 .1) in
-    let t10 = through (check10 b) _ 9 (t9 .1) in
-    rw (t7 .0, t8 .0, t9 .0, t10 .0)
-
--- a whole that passes has parts that pass
-both-parts : (b : Block) (later : ℕ) → formRefusal b later ≡ 0 → (formRefusal b 0 ≡ 0) × (later ≡ 0)
-unfolding formRefusal
-both-parts b later e =
-    let t7 = through (check7 b) _ 6 e in
-    let t8 = through (check8 b) _ 7 (t7 .1) in
-    let t9 = through (check9 b) _ 8 (t8 .1) in
-    let t10 = through (check10 b) _ 9 (t9 .1) in
-    (rw (t7 .0, t8 .0, t9 .0, t10 .0), t10 .1)
+-- .. and a whole that passes has parts that pass.
+both-parts : (v : Window) (b : Block) → blockRefusal v b 0 ≡ 0 → (formRefusal b ≡ 0) × (contentRefusal v b ≡ 0)
+unfolding formRefusal formChecks blockRefusal
+both-parts v b e =
+    let form : formRefusal b ≡ 0 = none-refused (formChecks b) (firstRefused (contentChecks v b) 0) refl (sym (in-turn (formChecks b) (contentChecks v b) 0) ∙ e) in
+    (form, sym (form-passed v b form) ∙ e)
 
 -- document 01's window
 pub windowed : (c : ℕ) → 0 < c → Windowed c (windowOf c)
@@ -161,13 +145,13 @@ module _ (v : Window) (b : Block) where
 
   -- any window within the block
   pub passed-in : blockRefusal v b 0 ≡ 0 → Windowed (covered b) v → Passed v b
-  unfolding contentRefusal check11
+  unfolding contentRefusal contentChecks check11
   passed-in e w =
-      let parts = both-parts b (contentRefusal v b 0) (sym (in-parts v b 0) ∙ e) in
+      let parts = both-parts v b e in
       let f = formed b (parts .0) in
-      let t11 = through (check11 b) _ 10 (parts .1) in
-      let t12 = through (check12 b) _ 11 (t11 .1) in
-      let t13 = through (check13 v b) _ 12 (t12 .1) in
+      let t11 = passes-first (check11 b) 11 _ 0 refl (parts .1) in
+      let t12 = passes-first (check12 b) 12 _ 0 refl (t11 .1) in
+      let t13 = passes-first (check13 v b) 13 _ 0 refl (t12 .1) in
       record {
         first-side = f .first;
         second-side = f .second;
@@ -192,8 +176,21 @@ module _ (v : Window) (b : Block) where
 -- the window of document 01
 pub passed : (b : Block) → blockRefusal (windowOf (covered b)) b 0 ≡ 0 → Passed (windowOf (covered b)) b
 passed b e =
-    let f = formed b (both-parts b (contentRefusal (windowOf (covered b)) b 0) (sym (in-parts (windowOf (covered b)) b 0) ∙ e) .0) in
+    let f = formed b (both-parts (windowOf (covered b)) b e .0) in
     passed-in (windowOf (covered b)) b e (windowed (covered b) (covered-some (f .power)))
+
+-- what comes after a block that is refused changes nothing; after one that passes it is answered
+later-none : (v : Window) (b : Block) (later : ℕ) → (blockRefusal v b 0 ≡ 0 → ⊥) → blockRefusal v b later ≡ blockRefusal v b 0
+unfolding blockRefusal
+later-none v b later n = refused-first (formChecks b ++ contentChecks v b) later n
+
+pub after-all : (v : Window) (b : Block) (later : ℕ) → blockRefusal v b 0 ≡ 0 → blockRefusal v b later ≡ later
+unfolding blockRefusal formChecks contentChecks
+after-all v b later e = all-pass (formChecks b ++ contentChecks v b) later refl e
+
+pub none-fails : (v : Window) (b : Block) (later : ℕ) → blockRefusal v b later ≡ 0 → blockRefusal v b 0 ≡ 0
+unfolding blockRefusal formChecks contentChecks
+none-fails v b later e = none-refused (formChecks b ++ contentChecks v b) later refl e
 
 -- ---- the refusals of a search, as its returns meet them
 module _ (book : Book) (b : Block) (room : Bool) where
@@ -201,38 +198,11 @@ module _ (book : Book) (b : Block) (room : Bool) where
   unfolding searchRefusal
   refused-book n = rw (ne-eqb (bookRefusal book) 0 n)
 
-  -- what comes after a block that is refused changes nothing
-  later-none : (v : Window) (later : ℕ) → (blockRefusal v b 0 ≡ 0 → ⊥) → blockRefusal v b later ≡ blockRefusal v b 0
-  unfolding blockRefusal
-  later-none v later = go (check7 b) (check8 b) (check9 b) (check10 b) (check11 b) (check12 b) (check13 v b)
-    where
-      whole : (a b c d e f g : Bool) → ℕ → ℕ
-      whole a b c d e f g x = cond a (cond b (cond c (cond d (cond e (cond f (cond g x 13) 12) 11) 10) 9) 8) 7
-
-      go : (a b c d e f g : Bool) → (whole a b c d e f g 0 ≡ 0 → ⊥) → whole a b c d e f g later ≡ whole a b c d e f g 0
-      go false b c d e f g n = refl
-      go true false c d e f g n = refl
-      go true true false d e f g n = refl
-      go true true true false e f g n = refl
-      go true true true true false f g n = refl
-      go true true true true true false g n = refl
-      go true true true true true true false n = refl
-      go true true true true true true true n = absurd (n refl)
-
   module _ (ok : bookRefusal book ≡ 0) where
     pub refused-block : (blockRefusal (windowOf (covered b)) b 0 ≡ 0 → ⊥) → searchRefusal book b room ≡ blockRefusal (windowOf (covered b)) b 0
     unfolding searchRefusal
-    refused-block n = rw (eq-eqb (bookRefusal book) 0 ok) (later-none (windowOf (covered b)) (cond room 0 14) n)
+    refused-block n = rw (eq-eqb (bookRefusal book) 0 ok) (later-none (windowOf (covered b)) b (cond room 0 14) n)
 
     pub refused-room : blockRefusal (windowOf (covered b)) b 0 ≡ 0 → searchRefusal book b room ≡ cond room 0 14
-    unfolding searchRefusal blockRefusal
-    refused-room e =
-        let v = windowOf (covered b) in
-        let t7 = through (check7 b) _ 6 e in
-        let t8 = through (check8 b) _ 7 (t7 .1) in
-        let t9 = through (check9 b) _ 8 (t8 .1) in
-        let t10 = through (check10 b) _ 9 (t9 .1) in
-        let t11 = through (check11 b) _ 10 (t10 .1) in
-        let t12 = through (check12 b) _ 11 (t11 .1) in
-        let t13 = through (check13 v b) _ 12 (t12 .1) in
-        rw (eq-eqb (bookRefusal book) 0 ok, t7 .0, t8 .0, t9 .0, t10 .0, t11 .0, t12 .0, t13 .0)
+    unfolding searchRefusal
+    refused-room e = rw (eq-eqb (bookRefusal book) 0 ok) (after-all (windowOf (covered b)) b (cond room 0 14) e)

@@ -3,16 +3,18 @@ use mathlib.Core.Path.{_≡_, sym, _∙_}
 use mathlib.Core.Bool.{Bool, true, false, not, _&&_, and-false}
 use Prim.Native.Nat.{ℕ, _+_, _*_, _≤_}
 use native.Mathlib.Omega.{arith}
-use borrow.Author.Tests.{not-true, not-false}
+use borrow.Author.Tests.{not-true, not-false, leb-true}
 use lib.Dec.{eqb, leb}
-use lib.ListN.{length}
+use lib.ListN.{length, getD}
 use Rattle.ac_context.specs.Contexts.{isPowerBelow}
 use Rattle.ac_context.proofs.Bounds.{covered-some, covered-most}
 use Rattle.bias.specs.Level.{validBias}
 use Rattle.block.specs.Block.{Block, covered, inputAt, idealAt, ideal}
-use Rattle.block.specs.Checks.{check7, check8, check9, check10, check11, check12, check13}
+use Rattle.block.specs.Checks.{check7, check8, check9, check18, check10, check11, check12, check13, formChecks, contentChecks, strategyCovered}
 use Rattle.candidates.specs.Candidates.{isCurrent}
 use Rattle.candidates.specs.Nearest.{isIdeal}
+use Rattle.laws.proofs.Tests.{and-left}
+use Rattle.laws.specs.Refusals.{firstRefused}
 use Rattle.prices.specs.Checks.{each}
 use Rattle.scan.specs.Scan.{eachOnce, Perm, levelAt}
 use Rattle.scan.proofs.Once.{perm-of}
@@ -31,6 +33,10 @@ held {r} e t = sym e ∙ not-false r t
 
 pub all-of : {a b c : Bool} (d : Bool) → a ≡ true → b ≡ true → c ≡ true → d ≡ (a && b && c && d)
 all-of d e f g = rw (e, f, g)
+
+-- a strategy that passed check 9
+pub strategy-coded : (strategy channel : ℕ) → leb strategy 26 && leb channel 2 ≡ true → strategy ≤ 26
+strategy-coded strategy channel e = leb-true _ _ (and-left (leb strategy 26) (leb channel 2) e)
 
 module _ (b : Block) where
   pub first-side : isPowerBelow 6 (b .shape .cx) ≡ false → check7 b ≡ false
@@ -56,6 +62,10 @@ module _ (b : Block) where
   unfolding check9
   nine h = h
 
+  pub eighteen : {r : Bool} {c : ℕ} → c ≡ b .shape .cx * b .shape .cy → r ≡ eqb c (getD strategyCovered (b .shape .strategy) 0) → r ≡ check18 b
+  unfolding check18 covered
+  eighteen e h = rw e at h
+
   pub settings-fail : validSettings (b .settings) ≡ false → check10 b ≡ false
   unfolding check10
   settings-fail e = rw e
@@ -67,27 +77,32 @@ module _ (b : Block) where
   module _ (e7 : check7 b ≡ true) where
     module _ (e8 : check8 b ≡ true) where
       module _ (e9 : check9 b ≡ true) where
-        pub at10 : check10 b ≡ false → 10 ≡ formRefusal b 0
-        unfolding formRefusal
-        at10 e = rw (e7, e8, e9, e)
+        module _ (e18 : check18 b ≡ true) where
+          pub at10 : check10 b ≡ false → 10 ≡ formRefusal b
+          unfolding formRefusal formChecks firstRefused
+          at10 e = rw (e7, e8, e9, e18, e)
 
-        pub none : check10 b ≡ true → 0 ≡ formRefusal b 0
-        unfolding formRefusal
-        none e = rw (e7, e8, e9, e)
+          pub none : check10 b ≡ true → 0 ≡ formRefusal b
+          unfolding formRefusal formChecks firstRefused
+          none e = rw (e7, e8, e9, e18, e)
 
-      pub at9 : check9 b ≡ false → 9 ≡ formRefusal b 0
-      unfolding formRefusal
+        pub at18 : check18 b ≡ false → 18 ≡ formRefusal b
+        unfolding formRefusal formChecks firstRefused
+        at18 e = rw (e7, e8, e9, e)
+
+      pub at9 : check9 b ≡ false → 9 ≡ formRefusal b
+      unfolding formRefusal formChecks firstRefused
       at9 e = rw (e7, e8, e)
 
-    pub at8 : check8 b ≡ false → 8 ≡ formRefusal b 0
-    unfolding formRefusal
+    pub at8 : check8 b ≡ false → 8 ≡ formRefusal b
+    unfolding formRefusal formChecks firstRefused
     at8 e = rw (e7, e)
 
-  pub at7 : check7 b ≡ false → 7 ≡ formRefusal b 0
-  unfolding formRefusal
+  pub at7 : check7 b ≡ false → 7 ≡ formRefusal b
+  unfolding formRefusal formChecks firstRefused
   at7 e = rw e
 
-  module _ (ok : formRefusal b 0 ≡ 0) {c : ℕ} (blocks : c ≡ b .shape .cx * b .shape .cy) where
+  module _ (ok : formRefusal b ≡ 0) {c : ℕ} (blocks : c ≡ b .shape .cx * b .shape .cy) where
     pub few : c ≤ 1024
     unfolding covered
     few = rw blocks (covered-most (formed b ok .power))
@@ -132,18 +147,18 @@ module _ (b : Block) where
     thirteen e h = rw (e, blocks) at h
 
   module _ (v : Window) where
-    pub at11 : check11 b ≡ false → 11 ≡ contentRefusal v b 0
-    unfolding contentRefusal
+    pub at11 : check11 b ≡ false → 11 ≡ contentRefusal v b
+    unfolding contentRefusal contentChecks firstRefused
     at11 e = rw e
 
-    pub at12 : check11 b ≡ true → check12 b ≡ false → 12 ≡ contentRefusal v b 0
-    unfolding contentRefusal
+    pub at12 : check11 b ≡ true → check12 b ≡ false → 12 ≡ contentRefusal v b
+    unfolding contentRefusal contentChecks firstRefused
     at12 d e = rw (d, e)
 
-    pub at13 : check11 b ≡ true → check12 b ≡ true → check13 v b ≡ false → 13 ≡ contentRefusal v b 0
-    unfolding contentRefusal
+    pub at13 : check11 b ≡ true → check12 b ≡ true → check13 v b ≡ false → 13 ≡ contentRefusal v b
+    unfolding contentRefusal contentChecks firstRefused
     at13 d f e = rw (d, f, e)
 
-    pub passes : check11 b ≡ true → check12 b ≡ true → check13 v b ≡ true → 0 ≡ contentRefusal v b 0
-    unfolding contentRefusal
+    pub passes : check11 b ≡ true → check12 b ≡ true → check13 v b ≡ true → 0 ≡ contentRefusal v b
+    unfolding contentRefusal contentChecks firstRefused
     passes d f e = rw (d, f, e)

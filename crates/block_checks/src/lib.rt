@@ -1,4 +1,4 @@
-// Checks 7 to 14, in the order in which they are made.
+// Checks 7 to 14 and 18, in the order in which they are made.
 use bias::DequantBias;
 use block::Shape;
 use weights::Settings;
@@ -10,7 +10,7 @@ ghost use lib.IntN.{pos};
 ghost use lib.ListN.{length, getD};
 ghost use Rattle.ac_context.specs.Contexts.{isPowerBelow};
 ghost use Rattle.block.specs.Block.{blockOf, covered, idealAt};
-ghost use Rattle.block.specs.Checks.{blockRefusal, trellisRoom, beamRoom};
+ghost use Rattle.block.specs.Checks.{blockRefusal, strategyCovered, trellisRoom, beamRoom};
 ghost use Rattle.candidates.specs.Candidates.{isCurrent};
 ghost use Rattle.candidates.specs.Nearest.{isIdeal};
 ghost use Rattle.prices.specs.Checks.{each};
@@ -69,6 +69,52 @@ fn is_coded(strategy: u8, channel: u8) -> bool
         return false;
     }
     channel <= 2
+}
+
+// ISO/IEC 18181-1: how many 8×8 blocks a varblock of each strategy code covers.
+const STRATEGY_COVERED: [u16; 27] = [
+    1,
+    1,
+    1,
+    1,
+    4,
+    16,
+    2,
+    2,
+    4,
+    4,
+    8,
+    8,
+    1,
+    1,
+    1,
+    1,
+    1,
+    1,
+    64,
+    32,
+    32,
+    256,
+    128,
+    128,
+    1024,
+    512,
+    512,
+];
+
+fn wide(x: u16) -> usize
+    ensures { λ r. ⌜ r ≡ x ⌝ }
+{
+    x as usize
+}
+
+// Check 18.
+fn fits(strategy: u8, covered_blocks: usize) -> bool
+    requires { ⌜ strategy ≤ 26 ⌝ }
+    ensures { λ r. ⌜ r ≡ eqb «covered_blocks» (getD strategyCovered strategy 0) ⌝ }
+{
+    let code = strategy as usize;
+    covered_blocks == wide(STRATEGY_COVERED[code])
 }
 
 // 0 for a level within ±32,767, else 1.
@@ -138,7 +184,7 @@ fn ideals_within(
     true
 }
 
-// Checks 7 to 10.
+// Checks 7, 8, 9, 18 and 10.
 fn check_form(
     shape: Shape,
     settings: Settings,
@@ -149,7 +195,7 @@ fn check_form(
     inv_qm: &[f32],
     levels: &[i32],
 ) -> u32
-    ensures { λ r. ⌜ r ≡ formRefusal (blockOf shape settings bias scale (now (scan .entry)) (now (source .entry)) (now («inv_qm» .entry)) (now (levels .entry))) 0 ⌝ }
+    ensures { λ r. ⌜ r ≡ formRefusal (blockOf shape settings bias scale (now (scan .entry)) (now (source .entry)) (now («inv_qm» .entry)) (now (levels .entry))) ⌝ }
 {
     let cx = shape.cx;
     let cy = shape.cy;
@@ -159,11 +205,15 @@ fn check_form(
     if !is_side(cy) {
         return 7;
     }
-    if !hold(64 * covered_blocks(cx, cy), scan, source, inv_qm, levels) {
+    let covered = covered_blocks(cx, cy);
+    if !hold(64 * covered, scan, source, inv_qm, levels) {
         return 8;
     }
     if !is_coded(shape.strategy, shape.channel) {
         return 9;
+    }
+    if !fits(shape.strategy, covered) {
+        return 18;
     }
     if !settings.valid() {
         return 10;
@@ -182,8 +232,8 @@ fn check_content(
     inv_qm: &[f32],
     levels: &[i32],
 ) -> u32
-    requires { ⌜ formRefusal (blockOf shape settings bias scale (now scan) (now source) (now «inv_qm») (now levels)) 0 ≡ 0 ⌝ }
-    ensures { λ r. ⌜ r ≡ contentRefusal (windowOf (shape .cx * shape .cy)) (blockOf shape settings bias scale (now (scan .entry)) (now (source .entry)) (now («inv_qm» .entry)) (now (levels .entry))) 0 ⌝ }
+    requires { ⌜ formRefusal (blockOf shape settings bias scale (now scan) (now source) (now «inv_qm») (now levels)) ≡ 0 ⌝ }
+    ensures { λ r. ⌜ r ≡ contentRefusal (windowOf (shape .cx * shape .cy)) (blockOf shape settings bias scale (now (scan .entry)) (now (source .entry)) (now («inv_qm» .entry)) (now (levels .entry))) ⌝ }
 {
     let covered = covered_blocks(shape.cx, shape.cy);
     if !scan::each_once(scan) {
@@ -200,7 +250,7 @@ fn check_content(
     }
 }
 
-// Checks 7 to 13: the number of the first that fails, or 0.
+// Checks 7 to 13 and 18: the number of the first that fails, or 0.
 pub fn check_block(
     shape: Shape,
     settings: Settings,

@@ -18,7 +18,7 @@ use Rattle.block.specs.declared.Answer.{Answer}
 use Rattle.block.specs.declared.Answer.the-variants.{Cost, Count, Refused}
 use Rattle.greedy.specs.Greedy.{greedyOutcome}
 use Rattle.prices.specs.Book.{Book}
-use Rattle.problem.proofs.Refusals.{search-few}
+use Rattle.problem.proofs.Refusals.{NoOutcome, search-number}
 use Rattle.searches.specs.Outcome.{greedyResult, beamResult, wasSearched}
 
 pub greedy-result : (book : Book) (b : Block) (l : Lent) {answer : Answer} {levels : List ℤ} → answer ≡ greedyOutcome book b .answer → levels ≡ greedyOutcome book b .levels
@@ -30,13 +30,13 @@ module _ (book : Book) (b : Block) (l : Lent) where
   -- the beam searched exactly where no check refused
   searched-is : wasSearched (beamOutcome book b (l .choices) .answer) ≡ eqb (Beam.refusal book b (l .choices)) 0
   unfolding beamOutcome Beam.answered wasSearched Beam.refusal
-  searched-is = go (Beam.refusal book b (l .choices)) (search-few book b _) (eqb (Beam.refusal book b (l .choices)) 0) refl (finite (Beam.beamCost (Beam.problem book b)))
+  searched-is = go (Beam.refusal book b (l .choices)) (search-number book b _) (eqb (Beam.refusal book b (l .choices)) 0) refl (finite (Beam.beamCost (Beam.problem book b)))
     where
-      go : (n : ℕ) → n ≤ 14 → (t : Bool) → eqb n 0 ≡ t → (f : Bool)
+      go : (n : ℕ) → NoOutcome n → (t : Bool) → eqb n 0 ≡ t → (f : Bool)
           → wasSearched (cond t (outcomeOf (cond f (Cost (Beam.beamCost (Beam.problem book b)) (Beam.beamCount (Beam.problem book b))) (Refused 16)) (Beam.written book b) (replicate (length (l .choices)) 255)) (outcomeOf (Refused n) (b .levels) (l .choices)) .answer) ≡ t
       go n h true e true = refl
       go n h true e false = refl
-      go n h false e f = ne-eqb n 16 (λ k. omega arith)
+      go n h false e f = ne-eqb n 16 (h .not-16)
 
   module _ {answer : Answer} {levels : List ℤ} {choices : List ℕ} (e : outcomeOf answer levels choices ≡ beamOutcome book b (l .choices)) where
     refusal-is : {t : Bool} → wasSearched answer ≡ t → eqb (Beam.refusal book b (l .choices)) 0 ≡ t

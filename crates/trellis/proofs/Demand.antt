@@ -25,7 +25,7 @@ use Rattle.least_cost.proofs.Whole as Whole
 use Rattle.prices.specs.Book.{Book}
 use Rattle.prices.specs.Checks.{bookRefusal}
 use Rattle.problem.proofs.Main.{input-in-band, trellis-found}
-use Rattle.problem.proofs.Refusals.{search-few, searched}
+use Rattle.problem.proofs.Refusals.{NoOutcome, search-number, searched}
 use Rattle.problem.proofs.Written.{put-window, put-choice}
 use Rattle.problem.specs.Tokens.{needsInfinite}
 use Rattle.scan.specs.Scan.{put}
@@ -98,9 +98,9 @@ module _ (book : Book) (b : Block) (l : Lent) where
       let s = searched book b _ e in
       (s .0, s .1 .0)
 
-  refusal-few : refusal book b l ≤ 14
+  refusal-number : NoOutcome (refusal book b l)
   unfolding refusal
-  refusal-few = search-few book b _
+  refusal-number = search-number book b _
 
   pub refused-15 : RefusedExactly book b l (bandedOutcome book b l .answer)
   unfolding bandedOutcome
@@ -114,7 +114,7 @@ module _ (book : Book) (b : Block) (l : Lent) where
           (z, refused-exactly book (passed-all z .0) b (passed-all z .1) .0 e)
       only false h e =
           let bad : refusal book b l ≡ 15 = cc in
-          absurd (omega (arith, refusal-few))
+          absurd (refusal-number .not-15 bad)
 
   pub least-answered : LeastAnswered book b (bandedOutcome book b l .lent .levels) (bandedOutcome book b l .answer)
   unfolding bandedOutcome cleared

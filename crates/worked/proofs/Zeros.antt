@@ -28,7 +28,8 @@ use Rattle.scan.specs.Scan as Scan
 use Rattle.scan.specs.Scan.{onceBelow, eachOnce, levelAt}
 use Rattle.weights.specs.Settings.{isDistance, validSettings, channelScale, weightAt}
 use Rattle.weights.specs.Weights.{clamp, chromaWeight, distortionWeight}
-use Rattle.block.specs.Checks.{check7, check8, check9, check10, check11, check12, check13, blockRefusal}
+use Rattle.laws.specs.Refusals.{firstRefused}
+use Rattle.block.specs.Checks.{formChecks, contentChecks, strategyCovered, check7, check8, check9, check18, check10, check11, check12, check13, blockRefusal}
 use Rattle.prices.specs.Checks.{each, symbolPrice, sameBits, check1, check2, mapBelow, check3, check4, allPriced, check5, rowKept, check6, firstFive, firstTwo, bookRefusal}
 use Rattle.prices.proofs.Each.{each-all}
 use Rattle.block_checks.specs.Passed.{Passed}
@@ -68,10 +69,10 @@ pub priced-never : bookRefusal (checked never) ≡ 0
 unfolding checked check2 check3 check4 check5 check6 each allPriced symbolPrice rowKept sameBits clusterValid validConfig upFrom clusterPrice clusterSymbol clusterExtra symbolOf extraBitsOf topBit size ofInt add le lt eq toBits
 priced-never = passes (checked never) (first-check never) refl (one-cluster 14850) refl refl refl
 
--- ---- the block passes checks 7 to 13
+-- ---- the block passes its checks
 
 zeros-pass : blockRefusal (windowOf (covered zeros)) zeros 0 ≡ 0
-unfolding blockRefusal check7 check8 check9 check10 check11 check12 check13 each isPowerBelow validSettings isDistance validBias eachOnce onceBelow Scan.countOf isIdeal
+unfolding blockRefusal formChecks contentChecks firstRefused strategyCovered check7 check8 check9 check18 check10 check11 check12 check13 each isPowerBelow validSettings isDistance validBias eachOnce onceBelow Scan.countOf isIdeal
     inputAt ideal idealAt covered levelAt zeros blockWith upFrom windowOf numerator0145 ofBits ofInt le lt eq mul
 zeros-pass = refl
 

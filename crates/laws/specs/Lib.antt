@@ -1,0 +1,2 @@
+-- What several crates say in the same words.
+pub mod Refusals
