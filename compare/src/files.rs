@@ -175,7 +175,7 @@ fn one_cluster(symbols: impl Fn(usize) -> f32) -> Book {
 }
 
 /// Document 01's examples of a search: an all-zero block, every symbol at price 1 and then at +infinity; and a block with coefficients that
-/// are not numbers between two good ones.
+/// are not numbers between two good ones. Then the block whose rounding buys nearly all that it may.
 fn examples() -> Vec<(Book, Vec<Block>)> {
     let zeros = Block { lambda: 3.0, channel: 1, ..blocks::empty_block() };
     let mut good = zeros.clone();
@@ -187,6 +187,7 @@ fn examples() -> Vec<(Book, Vec<Block>)> {
         (one_cluster(|_| 1.0), vec![zeros.clone()]),
         (one_cluster(|_| f32::INFINITY), vec![zeros]),
         (one_cluster(|symbol| 0.5 + 0.25 * symbol as f32), vec![good.clone(), failed, good]),
+        (books::free_of_cost(), vec![blocks::nearly_off()]),
     ]
 }
 
