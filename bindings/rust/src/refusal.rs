@@ -51,6 +51,10 @@ pub enum Refusal {
     Domain = 17,
     /// The product of the block's sides is not the strategy's.
     Sides = 18,
+    /// A count of a tally, or its total of extra bits, would pass its type.
+    TallyFull = 27,
+    /// A count of a tally, or its total of extra bits, would fall below 0.
+    TallyEmpty = 28,
 }
 
 const ALL: &[Refusal] = &[
@@ -72,6 +76,8 @@ const ALL: &[Refusal] = &[
     Refusal::PathsInfinite,
     Refusal::Domain,
     Refusal::Sides,
+    Refusal::TallyFull,
+    Refusal::TallyEmpty,
 ];
 
 impl Refusal {
@@ -105,6 +111,8 @@ impl Refusal {
             Refusal::PathsInfinite => "every path that the beam kept ended at an infinite cost: give finite prices to the symbols that the block needs",
             Refusal::Domain => "an argument lies outside the call's domain: the call's documentation gives it",
             Refusal::Sides => "the product of the sides is not what the strategy covers (a 16x16 transform covers 2 by 2 units of 8 samples): pass the strategy and the sides of one block",
+            Refusal::TallyFull => "a count would pass 2^32 - 1, or the total of extra bits 2^64 - 1: begin a new tally",
+            Refusal::TallyEmpty => "a count or the total of extra bits would fall below 0: take out only tokens that were added, under the same map and configurations",
         }
     }
 }

@@ -50,6 +50,19 @@ module _ (w : ℕ) (v : Window) (book : Book) (ok : bookRefusal book ≡ 0) (b :
         λ f. h .1 (λ cs B. subst⁻¹ (λ (t : Bool). T t) (infinite-token book ok v b P w cs B) (f cs B)),
       )
 
+  -- How far from the exact sum: of two choices in the band, the one that costs no more, rounded, has an exact cost that exceeds the other's by at most one part in 2^23 for
+  -- each of its sums. The other needs no token of infinite price.
+  pub near-exact : (cs ds : List ℤ) → Banded (problemOf w v book b) cs → Banded (problemOf w v book b) ds → T (le (wholeCost (problemOf w v book b) cs) (wholeCost (problemOf w v book b) ds))
+      → needsInfinite v book b ds ≡ false
+      → wholeExact (problemOf w v book b) cs * 16777215 ^ suc (v .length) ≤ wholeExact (problemOf w v book b) ds * 16777217 ^ suc (v .length)
+  near-exact cs ds C D h finite-price =
+      let p = problemOf w v book b in
+      let s = sound book ok v b P w in
+      let f : finite (wholeCost p ds) ≡ true =
+          whole-finite 194 (pastLength v b) p s (capped-problem book ok v b P w) ds D ∙ ap not (infinite-token book ok v b P w ds D ∙ finite-price) in
+      subst (λ (n : ℕ). wholeExact p cs * 16777215 ^ suc n ≤ wholeExact p ds * 16777217 ^ suc n) (positions-many w v book b)
+      (Exact.near-exact p s (block-floats book b w v) cs ds C D h (rw f tt))
+
   -- A token's price is infinite exactly where its symbol's is.
   pub token-infinite :
       (remaining k prev : ℕ) (q : ℤ) → T (isLevel q)
