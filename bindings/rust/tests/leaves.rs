@@ -5,7 +5,6 @@ use rdoq::{
     BookBuilder, Config, Pricing, Refusal, Split, Window, CONTEXTS, SYMBOLS,
 };
 use std::collections::HashSet;
-use std::error::Error;
 
 const OUTSIDE: Refusal = Refusal::Domain;
 
@@ -23,8 +22,7 @@ fn refusals_have_their_numbers() {
     for number in (1..=18).chain(27..=28).chain(33..=37) {
         let refusal = Refusal::from_number(number).unwrap();
         assert_eq!(refusal.number(), number);
-        let error: Box<dyn Error> = Box::new(refusal);
-        let text = error.to_string();
+        let text = refusal.to_string();
         assert!(text.starts_with(&format!("refusal {number}: ")), "{text}");
         assert!(texts.insert(text));
     }
@@ -33,6 +31,13 @@ fn refusals_have_their_numbers() {
     assert_eq!(Refusal::StoreRecord.number(), 37);
     assert_eq!(Refusal::Ideal.number(), 13);
     assert_eq!(Refusal::BandInfinite.number(), 15);
+}
+
+#[cfg(feature = "std")]
+#[test]
+fn a_refusal_is_an_error() {
+    let error: Box<dyn std::error::Error> = Box::new(Refusal::Domain);
+    assert_eq!(error.to_string(), Refusal::Domain.to_string());
 }
 
 #[test]
