@@ -71,7 +71,7 @@
 //! | `raw_strategy` | none: no answer depends on it |
 //! | `strategy_code` | [`Shape::strategy`]; it must cover `cx` × `cy` |
 //! | `c` | [`Shape::channel`] |
-//! | `bias: DequantBias` | [`Block::bias`]; `DequantBias::DEFAULT` is [`Bias::DEFAULT`]. The explicit bundle, whose numerator is not 0.145, is refused |
+//! | `bias: DequantBias` | [`Block::bias`]; `DequantBias::DEFAULT` is [`Bias::DEFAULT`] |
 //! | `predicted` | [`Shape::predicted`] |
 //! | `cx`, `cy` | [`Shape::cx`], [`Shape::cy`] |
 //! | `distance` | [`Settings::distance`] |
@@ -81,6 +81,9 @@
 //! | `search: RdoqSearch` | [`Search`] |
 //! | `scratch: &mut RdoqScratch` | `&mut` [`Room`] |
 //! | (no result) | [`Answer`], or a [`Refusal`] in place of a panic |
+//!
+//! The explicit biases of `DequantBias::channels` have a numerator other than 0.145 and are refused
+//! ([`Refusal::Settings`]).
 //!
 //! Of its other functions `pack_signed`, `uint_encode_with_config`, `fine_block_context`, `fine_non_zero_context`,
 //! `fine_zero_density_contexts_offset`, `zero_density_context` and `zero_density_context_8x8` have their names here;
