@@ -4,6 +4,7 @@ use crate::data::SEARCHES;
 use crate::measure::{BookCosts, Results, SearchCosts};
 use crate::show::{cells, table, Unit};
 use crate::store::CALLS;
+use crate::tally;
 use crate::tables::{config, share_of};
 
 /// The search part over the Rust's search.
@@ -31,7 +32,15 @@ pub fn all(results: &Results, unit: Unit) -> String {
     rows.extend(results.books.iter().filter(|costs| costs.clusters == 64).map(|costs| checks(costs, unit)));
     if unit == Unit::Nanoseconds {
         rows.extend(CALLS.iter().zip(&results.store).map(store));
+        let checks = results.tally.checks;
+        rows.push(vec![
+            format!("A tally: checks 1 to 4 at 64 clusters, at most {:.0} ns", tally::CHECKS_GOAL),
+            format!("{checks:.0} ns"),
+            met(checks <= tally::CHECKS_GOAL),
+        ]);
     }
+    let ratio = results.tally.token / results.tally.rust;
+    rows.push(row(&format!("A tally: a token at most {} of the Rust's", tally::TOKEN_GOAL), &[ratio], tally::TOKEN_GOAL));
     table("Goals", "", &cells(&["Goal", "Measured", "Met"]), &rows)
 }
 

@@ -24,6 +24,10 @@ extern "C" {
         room: *const u64, room_len: usize, record: *const u64, record_len: usize, block: u32, tokens: *mut u64, tokens_len: usize,
         length: *mut usize,
     ) -> u32;
+    fn rdoq_tally_add(
+        clusters: u32, map: *const u8, map_len: usize, configs: *const u8, configs_len: usize, contexts: *const u32, contexts_len: usize,
+        values: *const u32, values_len: usize, counts: *mut u32, counts_len: usize, extra: *mut u64,
+    ) -> u32;
 }
 
 /// The room that a call is lent.
@@ -90,6 +94,16 @@ pub fn read(room: &[u64], record: &[u64], block: u32, tokens: &mut [u64]) -> u32
     unsafe {
         rdoq_store_read(
             room.as_ptr(), room.len(), record.as_ptr(), record.len(), block, tokens.as_mut_ptr(), tokens.len(), &mut length,
+        )
+    }
+}
+
+/// Adds tokens to a tally.
+pub fn tally_add(book: &Book, contexts: &[u32], values: &[u32], counts: &mut [u32], extra: &mut u64) -> u32 {
+    unsafe {
+        rdoq_tally_add(
+            book.clusters, book.map.as_ptr(), book.map.len(), book.configs.as_ptr(), book.configs.len(), contexts.as_ptr(), contexts.len(),
+            values.as_ptr(), values.len(), counts.as_mut_ptr(), counts.len(), extra,
         )
     }
 }

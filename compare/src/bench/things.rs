@@ -7,6 +7,7 @@ use crate::group::trellis::door::{run, Scratch};
 use crate::inputs::{self, CONFIGS, SEARCHED};
 use crate::library::{self, Room};
 use crate::store::Store;
+use crate::tally::Tally;
 use std::hint::black_box;
 
 /// One thing that is measured. `density` and `config` are places in the lists of `inputs`.
@@ -26,6 +27,8 @@ pub enum Thing {
     Settled { search: Search, choices: usize, row: usize },
     /// A call on a full store, by its place in the list of `store`.
     Store { call: usize },
+    /// A stream of so many tokens added to a tally, by the Rust or by the port.
+    Tally { tokens: usize, rust: bool },
 }
 
 impl Thing {
@@ -39,6 +42,7 @@ impl Thing {
             Thing::Refused { c, density } => [4, c, density, 0],
             Thing::Settled { search, choices, row } => [5, search as usize, choices, row],
             Thing::Store { call } => [6, call, 0, 0],
+            Thing::Tally { tokens, rust } => [7, tokens, usize::from(rust), 0],
         }
     }
 
@@ -50,6 +54,7 @@ impl Thing {
             [3, clusters, config, ..] => Thing::PlainLoop { clusters, config },
             [4, c, density, ..] => Thing::Refused { c, density },
             [6, call, ..] => Thing::Store { call },
+            [7, tokens, rust, ..] => Thing::Tally { tokens, rust: rust != 0 },
             [_, search, choices, row] => Thing::Settled { search: SEARCHES[search], choices, row },
         }
     }
@@ -67,6 +72,7 @@ enum Task {
     Checks(Book),
     PlainLoop(Book),
     Store(Store),
+    Tally(Tally),
 }
 
 /// A thing made ready to be run in rounds.
@@ -108,6 +114,7 @@ impl Work {
                 Work { task: port(search, 1, vec![inputs::settled()], Room::of(choices, row)), repeat: 64 }
             }
             Thing::Store { call } => once(Task::Store(Store::of(call))),
+            Thing::Tally { tokens, rust } => once(Task::Tally(Tally::of(tokens, rust))),
         }
     }
 
@@ -117,6 +124,7 @@ impl Work {
             Task::Port { lent, .. } | Task::Rust { lent, .. } => self.repeat * lent.len(),
             Task::Checks(_) | Task::PlainLoop(_) => self.repeat,
             Task::Store(store) => store.calls(),
+            Task::Tally(_) => self.repeat,
         }
     }
 
@@ -130,6 +138,7 @@ impl Work {
             }
             Task::Checks(_) | Task::PlainLoop(_) => {}
             Task::Store(store) => store.reset(),
+            Task::Tally(tally) => tally.reset(),
         }
     }
 
@@ -153,6 +162,7 @@ impl Work {
                 Task::Checks(book) => reply = library::check(black_box(book)),
                 Task::PlainLoop(book) => reply = plain_loop(black_box(book)),
                 Task::Store(store) => reply = black_box(store).round(),
+                Task::Tally(tally) => reply = black_box(tally).round(),
             }
         }
         reply
@@ -162,7 +172,7 @@ impl Work {
     pub fn levels(&self) -> Vec<&[i32]> {
         match &self.task {
             Task::Port { lent, .. } | Task::Rust { lent, .. } => lent.iter().map(|lent| &lent.levels[..]).collect(),
-            Task::Checks(_) | Task::PlainLoop(_) | Task::Store(_) => Vec::new(),
+            Task::Checks(_) | Task::PlainLoop(_) | Task::Store(_) | Task::Tally(_) => Vec::new(),
         }
     }
 
@@ -171,7 +181,7 @@ impl Work {
         match &self.task {
             Task::Port { room, .. } => room.is_clear(),
             Task::Rust { scratch, .. } => scratch.is_clear(),
-            Task::Checks(_) | Task::PlainLoop(_) | Task::Store(_) => false,
+            Task::Checks(_) | Task::PlainLoop(_) | Task::Store(_) | Task::Tally(_) => false,
         }
     }
 }

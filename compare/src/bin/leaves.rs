@@ -22,6 +22,7 @@ mod random;
 mod stand_ins;
 
 use crate::ac_context as contexts;
+use crate::data::Book;
 use crate::entropy::entropy_code::door as prices;
 use crate::group::door as bias;
 use crate::group::trellis::{chroma_rdoq_weight, door as trellis};
@@ -300,7 +301,7 @@ fn configurations() -> Vec<[u8; 3]> {
     all
 }
 
-fn check(book: &data::Book) -> u32 {
+fn check(book: &Book) -> u32 {
     unsafe {
         rdoq_check_book(
             book.clusters, book.map.as_ptr(), book.map.len(), book.configs.as_ptr(), book.configs.len(), book.symbols.as_ptr(), book.symbols.len(),
@@ -338,7 +339,7 @@ fn ready_prices() -> Tally {
 }
 
 /// Both price calls on one book, every value in a drawn context. A value that has no word is held to +infinity: there the Rust indexes past 127.
-fn price_book(random: &mut Random, made: usize, book: &data::Book, tally: &mut Tally, none: &mut Tally) {
+fn price_book(random: &mut Random, made: usize, book: &Book, tally: &mut Tally, none: &mut Tally) {
     let frozen = prices::lent(book);
     for value in 0..=131_071 {
         let context = random.below(14_849) as u32;

@@ -1,6 +1,6 @@
 // Price books: handed over as they are, or made from a prefix code by the Rust.
 
-use super::{FrozenTokenPrices, HybridUintConfig, OwnedEntropyCode, PrefixCode, Token, TokenSlice, ALPHABET_SIZE};
+use super::{AdaptiveRate, FrozenTokenPrices, HybridUintConfig, OwnedEntropyCode, PrefixCode, Token, TokenSlice, ALPHABET_SIZE};
 use crate::data::Book;
 
 fn configs(book: &Book) -> Vec<HybridUintConfig> {
@@ -46,9 +46,18 @@ pub(crate) fn token_bits_pair(prices: &FrozenTokenPrices, context: u32, value: u
 }
 
 /// The counts and the extra bits of a stream, as the Rust adds them to none.
+#[allow(dead_code)]
 pub(crate) fn uses(prices: &FrozenTokenPrices, tokens: &[(u32, u32)]) -> (Vec<u32>, u64) {
     let stream: Vec<Token> = tokens.iter().map(|&(context, value)| Token::new(context, value)).collect();
     let mut rate = prices.adaptive_rate();
     rate.add(TokenSlice(&stream));
+    (rate.counts, rate.extra)
+}
+
+/// A stream added to counts and extra bits that are there.
+#[allow(dead_code)]
+pub(crate) fn added(prices: &FrozenTokenPrices, counts: Vec<u32>, extra: u64, tokens: &[Token]) -> (Vec<u32>, u64) {
+    let mut rate = AdaptiveRate { prices, counts, extra };
+    rate.add(TokenSlice(tokens));
     (rate.counts, rate.extra)
 }
