@@ -1,4 +1,4 @@
-//! Price books by seed: from prefix codes, strict or not, and hand-made ones.
+//! Price books by seed: a third from ANS codes, others from prefix codes, strict or not, and hand-made ones.
 
 use crate::checks::config_passes;
 use crate::data::Book;
@@ -20,9 +20,10 @@ pub fn random_book(random: &mut Random) -> Book {
     for _ in 0..clusters {
         book.configs.extend(config(random));
     }
-    match random.below(10) {
+    match random.below(15) {
         0..=2 => prefix_book(random, &mut book, false),
         3 => prefix_book(random, &mut book, true),
+        10.. => crate::entropy::entropy_code::door::from_ans(&mut book, &ans_code(random, clusters)),
         kind => {
             let infinite = random.pick(&[0, 0, 0, 0, 300, 60, 12, 2]);
             for _ in 0..128 * clusters {
@@ -123,6 +124,22 @@ pub fn price_prefix(book: &mut Book, codes: &[PrefixCode], strict: bool) {
         }
         fill_ready(book);
     }
+}
+
+/// Frequencies of an ANS code, 128 a cluster: each cluster's add up to 4,096, or nearly so, in one symbol or in many; some clusters have none.
+pub fn ans_code(random: &mut Random, clusters: usize) -> Vec<u16> {
+    let mut freqs = vec![0u16; 128 * clusters];
+    for row in freqs.chunks_mut(128) {
+        let used = random.pick(&[0, 1, 1, 2, 8, 40, 128, 128]);
+        let mut left = 4096;
+        for at in 0..used {
+            let share = if at + 1 == used { left } else { random.below(1 + 2 * left / (used - at)).min(left) };
+            let any = random.below(128);
+            row[random.pick(&[at, at, at, any])] = share as u16;
+            left -= share;
+        }
+    }
+    freqs
 }
 
 /// Depths of a code that exists: each is the logarithm of total over frequency, rounded up. Some have no word at all.

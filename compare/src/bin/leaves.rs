@@ -44,6 +44,7 @@ extern "C" {
     fn rdoq_distortion_weight(index: u32, length: u32, distance: f32, weight: *mut f32) -> u32;
     fn rdoq_candidates(ideal: f32, current: i32, restore: bool, levels: *mut i32, levels_len: usize, count: *mut u32) -> u32;
     fn rdoq_window_len(covered: u32, length: *mut usize, restoring: *mut usize) -> u32;
+    fn rdoq_ans_symbol_bits(clusters: u32, freqs: *const u16, freqs_len: usize, symbols: *mut f32, symbols_len: usize) -> u32;
     fn rdoq_prefix_symbol_bits(
         clusters: u32, depths: *const u8, depths_len: usize, singles: *const u8, singles_len: usize, strict: bool, symbols: *mut f32,
         symbols_len: usize,
@@ -262,6 +263,28 @@ fn prefix_prices() -> Tally {
     tally
 }
 
+/// Every frequency by itself, then drawn codes: the routine as the Rust's branch takes it.
+fn ans_prices() -> Tally {
+    let mut tally = Tally::new("ans_symbol_bits", "all 4,097 frequencies, and 2,000 drawn codes");
+    let mut random = Random::of(&[29]);
+    let mut at = |freqs: &[u16], which: usize| {
+        let clusters = freqs.len() / 128;
+        let mut book = data::Book { clusters: clusters as u32, map: vec![0; 14850], configs: [4, 2, 0].repeat(clusters), ..data::Book::default() };
+        prices::from_ans(&mut book, freqs);
+        let mut ours = vec![f32::NAN; freqs.len()];
+        let code = unsafe { rdoq_ans_symbol_bits(book.clusters, freqs.as_ptr(), freqs.len(), ours.as_mut_ptr(), ours.len()) };
+        let bits = |prices: &[f32]| prices.iter().map(|price| price.to_bits()).collect::<Vec<_>>();
+        tally.hold((code, bits(&ours)), (0, bits(&book.symbols)), which);
+    };
+    let all: Vec<u16> = (0..33 * 128).map(|f| f.min(4096)).collect();
+    at(&all, 0);
+    for made in 1..=2000 {
+        let clusters = 1 + if random.once_in(20) { random.below(256) } else { random.below(8) };
+        at(&books::ans_code(&mut random, clusters), made);
+    }
+    tally
+}
+
 fn price_calls() -> Tally {
     let mut tally = Tally::new("token_bits, token_bits_pair", "all values, each in a drawn context, in 30 books");
     let mut random = Random::of(&[19]);
@@ -298,7 +321,7 @@ fn price_calls() -> Tally {
 }
 
 fn main() {
-    let parts = [packing, splitting, block_contexts, count_contexts, coefficient_contexts, levels, weights, candidates, prefix_prices, price_calls];
+    let parts = [packing, splitting, block_contexts, count_contexts, coefficient_contexts, levels, weights, candidates, prefix_prices, ans_prices, price_calls];
     let mut differences = 0;
     for part in parts {
         let tally = part();
