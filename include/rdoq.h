@@ -1,7 +1,7 @@
 /*
  * The level search of a JPEG XL encoder, for one block.
  *
- * The functions are those of crates/c_leaves, c_book and c_search, whose contracts are proved. Build the library with
+ * The functions are those of crates/c_leaves, c_book, c_search and c_store, whose contracts are proved. Build the library with
  *
  *     make library               writes target/staticlib/librdoq_c.a
  *
@@ -19,8 +19,8 @@
  *
  * Refusals. The first check that fails is answered. A search makes its checks in this order: `search` names one (17), 1 to 9, 18,
  * 10 to 14; then the trellis may find 15, the beam 16. The builder of a prefix code makes 1 and 2, that of an ANS code 1, 2 and 19,
- * rdoq_fill_ready 1 to 5. The
- * leaf and price calls make 17 alone.
+ * rdoq_fill_ready 1 to 5. The leaf and price calls make 17 alone. The calls on a store make 37, 33, then 34 (put) or 35 (drop, read),
+ * then 36 (read).
  *
  *    1  the map is not 14,850 bytes, or the clusters are not 1 to 256
  *         Lend a byte for each context; name 1 to 256 clusters.
@@ -62,6 +62,17 @@
  *         Pass the strategy and the sides of one block. Which side is the longer does not matter.
  *   19  a frequency of an ANS code is above 4,096
  *         Scale the frequencies so that 4,096 is the whole.
+ *   33  of a store: the block number is not below 1,024
+ *         Number the blocks of a store from 0.
+ *   34  of a store: the live tokens after the call would exceed the room (a run that is replaced is not counted)
+ *         Drop runs, or start a store with more room.
+ *   35  of a store: no run is held under the block number
+ *         Put one first.
+ *   36  the reader's buffer is shorter than the run
+ *         Lend more; record has the length of each run.
+ *   37  of a store: record is not 3,073 numbers, or says more than 1,024 runs, or a run that starts before the one before it ends or
+ *       ends past room, or a number that is not below 1,024 or stands there twice
+ *         Hand room and record on as the last call left them; all 0 is an empty store.
  */
 #ifndef RDOQ_H
 #define RDOQ_H
@@ -85,6 +96,8 @@ extern "C" {
 #define RDOQ_TRELLIS_CHOICES 28u  /* and for the trellis */
 #define RDOQ_ROW 28u              /* floats of a cost row */
 #define RDOQ_BIAS_NUMERATOR 0.145f
+#define RDOQ_STORE_RUNS 1024u     /* block numbers of a store */
+#define RDOQ_STORE_RECORD 3073u   /* numbers of its record */
 
 /*
  * A price book is lent in five parts that the caller keeps:
@@ -214,6 +227,24 @@ uint32_t rdoq_candidates(float ideal, int32_t current, bool restore, int32_t *le
 
 /* How many positions a search covers, and how many of them it may restore. covered_blocks is a power of two of at most 1,024. */
 uint32_t rdoq_window_len(uint32_t covered_blocks, size_t *length, size_t *restoring);
+
+/*
+ * A store of token runs, each under a block number below 1,024. The caller keeps room (any length) and record (3,073 numbers, all 0
+ * in an empty store) and hands both on as the last call left them. record[0] is the number of runs; block number, start and length
+ * of each follow, in the order in which the runs stand in room. What stands past them is not read. A run may be empty and is held
+ * all the same. From an empty store the answers are those of a plain map from block number to tokens (proved). Returns 0, or the
+ * first of 37, 33, then 34 (put) or 35 (drop, read), then 36 (read); a refusal changes nothing.
+ *
+ * put   holds the tokens under the block number, in place of a run already there. Where they do not fit behind the last run, the
+ *       runs are first moved together at the front of room.
+ * drop  gives a run's room back; room itself does not change.
+ * read  copies the run to the front of tokens, and nothing past it changes; length is its length.
+ */
+uint32_t rdoq_store_put(uint64_t *room, size_t room_len, uint64_t *record, size_t record_len, uint32_t block,
+                        const uint64_t *tokens, size_t tokens_len);
+uint32_t rdoq_store_drop(const uint64_t *room, size_t room_len, uint64_t *record, size_t record_len, uint32_t block);
+uint32_t rdoq_store_read(const uint64_t *room, size_t room_len, const uint64_t *record, size_t record_len, uint32_t block,
+                         uint64_t *tokens, size_t tokens_len, size_t *length);
 
 #ifdef __cplusplus
 }

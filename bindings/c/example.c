@@ -1,4 +1,4 @@
-/* A block of zeros with a price of one bit for every symbol, then with infinite prices. The answers are worked out by hand. The exit status counts those that differ. */
+/* A block of zeros with a price of one bit for every symbol, then with infinite prices; leaf calls; a store of token runs. The answers are worked out by hand. The exit status counts those that differ. */
 #include <math.h>
 #include <stdio.h>
 #include <string.h>
@@ -108,6 +108,26 @@ int main(void) {
     expect("the window of 32 blocks", rdoq_window_len(32, &length, &restoring), 0);
     expect("  length", (double)length, 1024);
     expect("  restoring", (double)restoring, 256);
+
+    static uint64_t room[5], record[RDOQ_STORE_RECORD];
+    const uint64_t three[3] = {UINT64_MAX, 2, 3}, two[2] = {4, 5};
+    uint64_t read[4] = {9, 9, 9, 9};
+    expect("putting 3 tokens into a store of 5", rdoq_store_put(room, 5, record, RDOQ_STORE_RECORD, 7, three, 3), 0);
+    expect("  and 2 more", rdoq_store_put(room, 5, record, RDOQ_STORE_RECORD, 1023, two, 2), 0);
+    expect("  and a third run", rdoq_store_put(room, 5, record, RDOQ_STORE_RECORD, 8, two, 1), 34);
+    expect("  the first one's number again", rdoq_store_put(room, 5, record, RDOQ_STORE_RECORD, 7, two, 2), 0);
+    expect("  number 1,024", rdoq_store_put(room, 5, record, RDOQ_STORE_RECORD, 1024, two, 2), 33);
+    length = 99;
+    expect("reading into too little", rdoq_store_read(room, 5, record, RDOQ_STORE_RECORD, 7, read, 1, &length), 36);
+    expect("  length", (double)length, 99);
+    expect("reading", rdoq_store_read(room, 5, record, RDOQ_STORE_RECORD, 7, read, 4, &length), 0);
+    expect("  length", (double)length, 2);
+    expect("  last token", (double)read[1], 5);
+    expect("  past it", (double)read[2], 9);
+    expect("dropping", rdoq_store_drop(room, 5, record, RDOQ_STORE_RECORD, 7), 0);
+    expect("  once more", rdoq_store_drop(room, 5, record, RDOQ_STORE_RECORD, 7), 35);
+    record[1] = 1024;
+    expect("a record that says number 1,024", rdoq_store_drop(room, 5, record, RDOQ_STORE_RECORD, 1023), 37);
 
     if (wrong) {
         printf("%d wrong\n", wrong);

@@ -35,6 +35,14 @@ extern "C" {
         choices_len: usize, row_a: *mut c_float, row_a_len: usize, row_b: *mut c_float, row_b_len: usize, cost: *mut c_float,
         count: *mut u32,
     ) -> u32;
+    pub fn rdoq_store_put(
+        room: *mut u64, room_len: usize, record: *mut u64, record_len: usize, block: u32, tokens: *const u64, tokens_len: usize,
+    ) -> u32;
+    pub fn rdoq_store_drop(room: *const u64, room_len: usize, record: *mut u64, record_len: usize, block: u32) -> u32;
+    pub fn rdoq_store_read(
+        room: *const u64, room_len: usize, record: *const u64, record_len: usize, block: u32, tokens: *mut u64, tokens_len: usize,
+        length: *mut usize,
+    ) -> u32;
     pub fn rdoq_pack_signed(level: i32, packed: *mut u32) -> u32;
     pub fn rdoq_uint_encode_with_config(
         value: u32, split_exponent: u32, msb_in_token: u32, lsb_in_token: u32, symbol: *mut u32, extra_bits: *mut u32,

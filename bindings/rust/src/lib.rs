@@ -42,6 +42,7 @@ mod ffi;
 mod leaves;
 mod refusal;
 mod search;
+mod store;
 
 pub use book::{Book, BookBuilder, Pricing, CONTEXTS, READY, SYMBOLS};
 pub use leaves::{
@@ -51,3 +52,4 @@ pub use leaves::{
 };
 pub use refusal::Refusal;
 pub use search::{rdoq_block, Answer, Bias, Block, Room, Search, Settings, Shape};
+pub use store::{TokenStore, STORE_RECORD, STORE_RUNS};

@@ -53,6 +53,16 @@ pub enum Refusal {
     Sides = 18,
     /// A frequency of an ANS code is above 4,096.
     Frequency = 19,
+    /// A block number of a store is not below 1,024.
+    BlockNumber = 33,
+    /// The live tokens would exceed the store's room.
+    StoreFull = 34,
+    /// A store holds no run under the block number.
+    NotHeld = 35,
+    /// The reader's buffer is shorter than the run.
+    BufferShort = 36,
+    /// A store's record has a run outside the room, two that overlap, or a number twice.
+    StoreRecord = 37,
 }
 
 const ALL: &[Refusal] = &[
@@ -75,6 +85,11 @@ const ALL: &[Refusal] = &[
     Refusal::Domain,
     Refusal::Sides,
     Refusal::Frequency,
+    Refusal::BlockNumber,
+    Refusal::StoreFull,
+    Refusal::NotHeld,
+    Refusal::BufferShort,
+    Refusal::StoreRecord,
 ];
 
 impl Refusal {
@@ -109,6 +124,11 @@ impl Refusal {
             Refusal::Domain => "an argument lies outside the call's domain: the call's documentation gives it",
             Refusal::Sides => "the product of the sides is not what the strategy covers (a 16x16 transform covers 2 by 2 units of 8 samples): pass the strategy and the sides of one block",
             Refusal::Frequency => "a frequency of an ANS code is above 4,096: scale the frequencies so that 4,096 is the whole",
+            Refusal::BlockNumber => "the block number is not below 1,024: number the blocks of a store from 0",
+            Refusal::StoreFull => "the live tokens would exceed the store's room: drop runs, or start a store with more room",
+            Refusal::NotHeld => "no run is held under the block number: put one first",
+            Refusal::BufferShort => "the buffer is shorter than the run: lend as many tokens as `TokenStore::run_len` says",
+            Refusal::StoreRecord => "the record is no store's: a run lies outside the room, two overlap, or a number is out of range or there twice; keep room and record as the last call left them",
         }
     }
 }

@@ -20,7 +20,7 @@ fn config(split_exponent: u32, msb_in_token: u32, lsb_in_token: u32) -> Config {
 #[test]
 fn refusals_have_their_numbers() {
     let mut texts = HashSet::new();
-    for number in 1..=19 {
+    for number in (1..=19).chain(33..=37) {
         let refusal = Refusal::from_number(number).unwrap();
         assert_eq!(refusal.number(), number);
         let error: Box<dyn Error> = Box::new(refusal);
@@ -30,6 +30,7 @@ fn refusals_have_their_numbers() {
     }
     assert_eq!(Refusal::from_number(0), None);
     assert_eq!(Refusal::from_number(255), None);
+    assert_eq!(Refusal::StoreRecord.number(), 37);
     assert_eq!(Refusal::Ideal.number(), 13);
     assert_eq!(Refusal::BandInfinite.number(), 15);
 }

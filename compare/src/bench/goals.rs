@@ -1,8 +1,10 @@
 //! The goals, and whether they are met.
 
 use crate::data::SEARCHES;
+use crate::inputs::CLUSTERS;
 use crate::measure::{BookCosts, Results, SearchCosts};
 use crate::show::{cells, table, Unit};
+use crate::store::CALLS;
 use crate::tables::{config, share_of};
 
 /// The search part over the Rust's search.
@@ -28,6 +30,10 @@ pub fn all(results: &Results, unit: Unit) -> String {
         rows.push(row(&goal, &shares, SHARE_GOAL));
     }
     rows.extend(results.books.iter().filter(|costs| costs.clusters == 64).map(|costs| checks(costs, unit)));
+    if unit == Unit::Nanoseconds {
+        rows.extend(CLUSTERS.iter().zip(&results.ans).filter(|(&clusters, _)| clusters == 64).map(|(_, &cost)| ans(cost)));
+        rows.extend(CALLS.iter().zip(&results.store).map(store));
+    }
     table("Goals", "", &cells(&["Goal", "Measured", "Met"]), &rows)
 }
 
@@ -58,4 +64,17 @@ fn checks(costs: &BookCosts, unit: Unit) -> Vec<String> {
         format!("{}; plain loop {}; {share:.3} of it", unit.checks(costs.checks), unit.checks(costs.plain)),
         met(within),
     ]
+}
+
+/// The builder from an ANS code; its goal is a time.
+fn ans(cost: f64) -> Vec<String> {
+    const MOST: f64 = 12_000.0;
+    let goal = format!("Symbol prices from an ANS code at 64 clusters: at most {:.0} µs", MOST / 1000.0);
+    vec![goal, format!("{:.2} µs", cost / 1000.0), met(cost <= MOST)]
+}
+
+/// A call on a store; its goal is a time.
+fn store(((call, most), &cost): (&(&str, f64), &f64)) -> Vec<String> {
+    let micros = |x: f64| format!("{:.1} µs", x / 1000.0);
+    vec![format!("A store of 1,024 runs of 30, {call}: at most {}", micros(*most)), micros(cost), met(cost <= *most)]
 }

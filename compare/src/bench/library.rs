@@ -1,4 +1,4 @@
-//! The two calls of the static library that are measured.
+//! The calls of the static library that are measured.
 
 use crate::data::{Block, Book, Search};
 
@@ -15,6 +15,15 @@ extern "C" {
         scan_len: usize, source: *const f32, source_len: usize, inv_qm: *const f32, inv_qm_len: usize, levels: *mut i32, levels_len: usize,
         choices: *mut u8, choices_len: usize, row_a: *mut f32, row_a_len: usize, row_b: *mut f32, row_b_len: usize, cost: *mut f32,
         count: *mut u32,
+    ) -> u32;
+    fn rdoq_ans_symbol_bits(clusters: u32, freqs: *const u16, freqs_len: usize, symbols: *mut f32, symbols_len: usize) -> u32;
+    fn rdoq_store_put(
+        room: *mut u64, room_len: usize, record: *mut u64, record_len: usize, block: u32, tokens: *const u64, tokens_len: usize,
+    ) -> u32;
+    fn rdoq_store_drop(room: *const u64, room_len: usize, record: *mut u64, record_len: usize, block: u32) -> u32;
+    fn rdoq_store_read(
+        room: *const u64, room_len: usize, record: *const u64, record_len: usize, block: u32, tokens: *mut u64, tokens_len: usize,
+        length: *mut usize,
     ) -> u32;
 }
 
@@ -58,6 +67,35 @@ pub fn call(search: Search, book: &Book, block: &Block, levels: &mut [i32], room
             block.numerator, block.scale, block.scan.as_ptr(), block.scan.len(), block.source.as_ptr(), block.source.len(),
             block.inverse.as_ptr(), block.inverse.len(), levels.as_mut_ptr(), levels.len(), room.choices.as_mut_ptr(), room.choices.len(),
             a.as_mut_ptr(), a.len(), b.as_mut_ptr(), b.len(), &mut cost, &mut count,
+        )
+    }
+}
+
+/// The symbol prices of an ANS code.
+pub fn ans(clusters: u32, freqs: &[u16], symbols: &mut [f32]) -> u32 {
+    unsafe { rdoq_ans_symbol_bits(clusters, freqs.as_ptr(), freqs.len(), symbols.as_mut_ptr(), symbols.len()) }
+}
+
+/// Puts a run into a store.
+pub fn put(room: &mut [u64], record: &mut [u64], block: u32, tokens: &[u64]) -> u32 {
+    unsafe {
+        rdoq_store_put(
+            room.as_mut_ptr(), room.len(), record.as_mut_ptr(), record.len(), block, tokens.as_ptr(), tokens.len(),
+        )
+    }
+}
+
+/// Drops a run.
+pub fn drop(room: &[u64], record: &mut [u64], block: u32) -> u32 {
+    unsafe { rdoq_store_drop(room.as_ptr(), room.len(), record.as_mut_ptr(), record.len(), block) }
+}
+
+/// Reads a run.
+pub fn read(room: &[u64], record: &[u64], block: u32, tokens: &mut [u64]) -> u32 {
+    let mut length = 0;
+    unsafe {
+        rdoq_store_read(
+            room.as_ptr(), room.len(), record.as_ptr(), record.len(), block, tokens.as_mut_ptr(), tokens.len(), &mut length,
         )
     }
 }

@@ -14,6 +14,7 @@ mod library;
 mod measure;
 mod page;
 mod show;
+mod store;
 mod tables;
 mod things;
 

@@ -3,6 +3,7 @@
 use crate::count::Counter;
 use crate::data::{Search, SEARCHES};
 use crate::inputs::{needed, CLUSTERS, CONFIGS, DENSITIES, SEARCHED, SIZES};
+use crate::store;
 use crate::things::{Thing, Work};
 use std::time::{Duration, Instant};
 
@@ -68,6 +69,10 @@ pub struct Results {
     pub blocks: Vec<BlockCosts>,
     pub clearing: Vec<ClearCosts>,
     pub lent: Vec<LentCosts>,
+    /// Symbol prices of an ANS code, by the clusters of `inputs`.
+    pub ans: Vec<f64>,
+    /// A call on a store, in the order of the list in `store`.
+    pub store: Vec<f64>,
 }
 
 pub enum Meter {
@@ -85,7 +90,7 @@ impl Meter {
     }
 
     pub fn all(&mut self) -> Results {
-        Results { searches: self.searches(), books: self.books(), blocks: self.blocks(), clearing: self.clearing(), lent: self.lent() }
+        Results { searches: self.searches(), books: self.books(), blocks: self.blocks(), clearing: self.clearing(), lent: self.lent(), ans: self.ans(), store: self.store() }
     }
 
     fn searches(&mut self) -> Vec<SearchCosts> {
@@ -142,6 +147,16 @@ impl Meter {
             }
         }
         rows
+    }
+
+    fn ans(&mut self) -> Vec<f64> {
+        eprintln!("ANS prices");
+        CLUSTERS.iter().map(|&clusters| self.by_turns([Thing::Ans { clusters }])[0]).collect()
+    }
+
+    fn store(&mut self) -> Vec<f64> {
+        eprintln!("store");
+        (0..store::CALLS.len()).map(|call| self.by_turns([Thing::Store { call }])[0]).collect()
     }
 
     fn lent(&mut self) -> Vec<LentCosts> {

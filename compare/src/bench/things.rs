@@ -6,6 +6,7 @@ use crate::entropy::FrozenTokenPrices;
 use crate::group::trellis::door::{run, Scratch};
 use crate::inputs::{self, CONFIGS, SEARCHED};
 use crate::library::{self, Room};
+use crate::store::Store;
 use std::hint::black_box;
 
 /// One thing that is measured. `density` and `config` are places in the lists of `inputs`.
@@ -23,6 +24,10 @@ pub enum Thing {
     Refused { c: usize, density: usize },
     /// A call on a settled block of c = 1, with a room of so many choice bytes and floats in a row. Its book has one cluster.
     Settled { search: Search, choices: usize, row: usize },
+    /// Symbol prices of an ANS code.
+    Ans { clusters: usize },
+    /// A call on a full store, by its place in the list of `store`.
+    Store { call: usize },
 }
 
 impl Thing {
@@ -35,6 +40,8 @@ impl Thing {
             Thing::PlainLoop { clusters, config } => [3, clusters, config, 0],
             Thing::Refused { c, density } => [4, c, density, 0],
             Thing::Settled { search, choices, row } => [5, search as usize, choices, row],
+            Thing::Store { call } => [6, call, 0, 0],
+            Thing::Ans { clusters } => [7, clusters, 0, 0],
         }
     }
 
@@ -45,6 +52,8 @@ impl Thing {
             [2, clusters, config, ..] => Thing::Checks { clusters, config },
             [3, clusters, config, ..] => Thing::PlainLoop { clusters, config },
             [4, c, density, ..] => Thing::Refused { c, density },
+            [6, call, ..] => Thing::Store { call },
+            [7, clusters, ..] => Thing::Ans { clusters },
             [_, search, choices, row] => Thing::Settled { search: SEARCHES[search], choices, row },
         }
     }
@@ -61,6 +70,8 @@ enum Task {
     Rust { search: Search, prices: FrozenTokenPrices, lent: Vec<Lent>, scratch: Scratch },
     Checks(Book),
     PlainLoop(Book),
+    Store(Store),
+    Ans { freqs: Vec<u16>, symbols: Vec<f32> },
 }
 
 /// A thing made ready to be run in rounds.
@@ -101,6 +112,12 @@ impl Work {
             Thing::Settled { search, choices, row } => {
                 Work { task: port(search, 1, vec![inputs::settled()], Room::of(choices, row)), repeat: 64 }
             }
+            Thing::Store { call } => once(Task::Store(Store::of(call))),
+            Thing::Ans { clusters } => {
+                let freqs: Vec<u16> = (0..128 * clusters).map(|at| (at * 2657 % 4097) as u16).collect();
+                let symbols = vec![0.0; freqs.len()];
+                Work { task: Task::Ans { freqs, symbols }, repeat: 512 / clusters }
+            }
         }
     }
 
@@ -109,15 +126,21 @@ impl Work {
         match &self.task {
             Task::Port { lent, .. } | Task::Rust { lent, .. } => self.repeat * lent.len(),
             Task::Checks(_) | Task::PlainLoop(_) => self.repeat,
+            Task::Store(store) => store.calls(),
+            Task::Ans { .. } => self.repeat,
         }
     }
 
-    /// Puts every level back. No part of what is measured.
+    /// Puts every level, or the store, back. No part of what is measured.
     pub fn reset(&mut self) {
-        if let Task::Port { lent, .. } | Task::Rust { lent, .. } = &mut self.task {
-            for Lent { block, levels } in lent {
-                levels.copy_from_slice(&block.levels);
+        match &mut self.task {
+            Task::Port { lent, .. } | Task::Rust { lent, .. } => {
+                for Lent { block, levels } in lent {
+                    levels.copy_from_slice(&block.levels);
+                }
             }
+            Task::Checks(_) | Task::PlainLoop(_) | Task::Ans { .. } => {}
+            Task::Store(store) => store.reset(),
         }
     }
 
@@ -140,6 +163,8 @@ impl Work {
                 }
                 Task::Checks(book) => reply = library::check(black_box(book)),
                 Task::PlainLoop(book) => reply = plain_loop(black_box(book)),
+                Task::Store(store) => reply = black_box(store).round(),
+                Task::Ans { freqs, symbols } => reply = library::ans((freqs.len() / 128) as u32, black_box(freqs), symbols),
             }
         }
         reply
@@ -149,7 +174,7 @@ impl Work {
     pub fn levels(&self) -> Vec<&[i32]> {
         match &self.task {
             Task::Port { lent, .. } | Task::Rust { lent, .. } => lent.iter().map(|lent| &lent.levels[..]).collect(),
-            Task::Checks(_) | Task::PlainLoop(_) => Vec::new(),
+            Task::Checks(_) | Task::PlainLoop(_) | Task::Store(_) | Task::Ans { .. } => Vec::new(),
         }
     }
 
@@ -158,7 +183,7 @@ impl Work {
         match &self.task {
             Task::Port { room, .. } => room.is_clear(),
             Task::Rust { scratch, .. } => scratch.is_clear(),
-            Task::Checks(_) | Task::PlainLoop(_) => false,
+            Task::Checks(_) | Task::PlainLoop(_) | Task::Store(_) | Task::Ans { .. } => false,
         }
     }
 }

@@ -1,5 +1,6 @@
 // The level search for JPEG XL blocks: the public calls. Each takes anything, and answers a value or the number of a refusal. A call's contract and code stand in a crate below:
-// tokens and contexts in `token_calls`, bias, weights and candidates in `level_calls`, the price book in `book_calls`, the searches where `search` says.
+// tokens and contexts in `token_calls`, bias, weights and candidates in `level_calls`, the price book in `book_calls`, the store of token runs in
+// `store_calls`, the searches where `search` says.
 pub mod search;
 
 pub use answers::answer;
@@ -8,5 +9,6 @@ pub use book_calls::view;
 pub use level_calls::dequant;
 pub use level_calls::levels;
 pub use level_calls::weighing;
+pub use store_calls::store;
 pub use token_calls::contexts;
 pub use token_calls::tokens;

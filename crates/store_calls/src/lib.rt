@@ -1,0 +1,2 @@
+// The public calls on a store of token runs.
+pub mod store;

@@ -1,0 +1,5 @@
+pub mod Placed
+pub mod Runs
+pub mod Headed
+pub mod Order
+pub mod Marks

@@ -1,0 +1,4 @@
+pub mod Placed
+pub mod Runs
+pub mod Marks
+pub mod Tokens

@@ -1,0 +1,1 @@
+// Any run of calls on a store answers as a plain map: a theorem, no code.
