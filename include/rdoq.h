@@ -29,8 +29,8 @@
  *         Lend the exact lengths; surplus is refused too.
  *    3  an entry of the map is not below the number of clusters
  *         Mend the map, or name more clusters.
- *    4  a configuration (s, m, l) has s > 6, m + l > s, or 2^s + (17 - s) * 2^(m+l) > 128
- *         Use a smaller one: 4,2,0 and 4,2,1 and 6,2,0 pass.
+ *    4  a configuration (s, m, l) has s > 6 or m + l > s
+ *         Use a smaller one: 4,2,0 and 5,2,2 and 6,3,0 pass.
  *    5  a symbol price is NaN, below 0, or finite and above 1,024
  *         Use +infinity for a symbol that can't be written.
  *    6  a ready price is not symbol price plus extra bits
@@ -52,9 +52,10 @@
  *         Look for a failed transform, or for a wrong scale; the block keeps every level.
  *   14  the room is too small for the search (see rdoq_block)
  *         Lend more.
- *   15  the trellis: every choice in its band needs a token of infinite price
+ *   15  the trellis: every choice in its band needs a token of infinite price, or one for which there is no word for want of symbols
  *   16  the beam: every path that it kept ended at an infinite cost
- *         Give finite prices to the symbols that the block needs, or keep the block as it is: no level was changed.
+ *         Give finite prices to the symbols that the block needs, use a configuration with symbols for its values (see
+ *         rdoq_token_bits), or keep the block as it is: no level was changed.
  *   17  an argument lies outside the call's domain, or `search` names none
  *         See the comment over the call.
  *   18  the product of the sides is not what ISO/IEC 18181-1 gives for the strategy (codes 0-3, 12-17: 1; 6, 7: 2; 4, 8, 9: 4;
@@ -132,8 +133,11 @@ uint32_t rdoq_prefix_symbol_bits(uint32_t clusters, const uint8_t *depths, size_
 uint32_t rdoq_ans_symbol_bits(uint32_t clusters, const uint16_t *freqs, size_t freqs_len, float *symbols, size_t symbols_len);
 
 /*
- * Writes the price of a value of at most 131,071 in a context below 14,850. Returns 0, or 17 where context, value or a length of the
- * book is wrong, or an entry that the price is made of.
+ * Writes the price of a value of at most 131,071 in a context below 14,850: the price of its symbol plus its extra bits. A cluster has
+ * words for symbols up to 127; a value whose symbol is above that costs +infinity. The first such value is 2,048 with 5,2,2, 16,384
+ * with 6,3,0 and 128 with 6,m,6-m; with 4,2,0, 4,2,1 and 6,2,0 there is none. A block's count of nonzero levels is such a value too: with
+ * 5,2,2 a count from 2,048 on has no word, so a search can refuse large dense blocks with 15 or 16.
+ * Returns 0, or 17 where context, value or a length of the book is wrong, or an entry that the price is made of.
  */
 uint32_t rdoq_token_bits(uint32_t clusters, const uint8_t *map, size_t map_len, const uint8_t *configs, size_t configs_len,
                          const float *symbols, size_t symbols_len, const float *ready, size_t ready_len, uint32_t context,
@@ -185,7 +189,10 @@ uint32_t rdoq_block(uint32_t search, uint32_t clusters, const uint8_t *map, size
 /* The packed form of a level within -32,768 to 32,768: 2v where v >= 0, else -2v - 1. */
 uint32_t rdoq_pack_signed(int32_t level, uint32_t *packed);
 
-/* The symbol of a value of at most 131,071 under a configuration that passes check 4, how many extra bits it has, and the bits. */
+/*
+ * The symbol of a value of at most 131,071 under a configuration that passes check 4, how many extra bits it has, and the bits. Symbols
+ * run up to 767; those above 127 have no price in a book.
+ */
 uint32_t rdoq_uint_encode_with_config(uint32_t value, uint32_t split_exponent, uint32_t msb_in_token, uint32_t lsb_in_token,
                                       uint32_t *symbol, uint32_t *extra_bits, uint32_t *bits);
 

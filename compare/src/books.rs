@@ -3,7 +3,7 @@
 use crate::checks::config_passes;
 use crate::data::Book;
 use crate::entropy::prefix_code::PrefixCode;
-use crate::plain::split;
+use crate::plain::cluster_price;
 use crate::random::Random;
 
 pub fn random_book(random: &mut Random) -> Book {
@@ -60,10 +60,10 @@ fn map(random: &mut Random, clusters: usize) -> Vec<u8> {
     }
 }
 
-/// A configuration that passes check 4.
+/// A configuration that passes check 4, of all 84.
 fn config(random: &mut Random) -> [u8; 3] {
     if random.once_in(3) {
-        return random.pick(&[[4, 2, 0], [4, 2, 1], [6, 2, 0], [0, 0, 0]]);
+        return random.pick(&[[4, 2, 0], [4, 2, 1], [6, 2, 0], [0, 0, 0], [5, 2, 2], [6, 3, 0], [6, 3, 3]]);
     }
     loop {
         let [s, m, l] = [0; 3].map(|_: u8| random.below(7) as u8);
@@ -94,13 +94,8 @@ fn price(random: &mut Random, kind: usize) -> f32 {
 
 /// The ready prices that check 6 asks for.
 pub fn fill_ready(book: &mut Book) {
-    book.ready.clear();
-    for (c, symbols) in book.configs.chunks(3).zip(book.symbols.chunks(128)) {
-        for value in 0..256 {
-            let (symbol, extra) = split(value, c[0].into(), c[1].into(), c[2].into());
-            book.ready.push(symbols[symbol as usize] + extra as f32);
-        }
-    }
+    let price = |at: usize| cluster_price(book, at / 256, (at % 256) as u32);
+    book.ready = (0..256 * book.configs.len() / 3).map(price).collect();
 }
 
 fn prefix_book(random: &mut Random, book: &mut Book, strict: bool) {
@@ -109,8 +104,18 @@ fn prefix_book(random: &mut Random, book: &mut Book, strict: bool) {
 }
 
 /// Prices that the Rust makes from prefix codes. Strict: a symbol without a word costs +infinity, where its cluster has a word.
+/// Under 6,m,6-m the Rust would index past 127 for the ready prices: it makes the symbol prices alone.
 pub fn price_prefix(book: &mut Book, codes: &[PrefixCode], strict: bool) {
+    let past = book.configs.chunks(3).any(|c| c[1] + c[2] == 6);
+    let configs = book.configs.clone();
+    if past {
+        book.configs = [4, 2, 0].repeat(codes.len());
+    }
     crate::entropy::entropy_code::door::from_prefix(book, codes.to_vec());
+    book.configs = configs;
+    if past {
+        fill_ready(book);
+    }
     if strict {
         for (row, code) in book.symbols.chunks_mut(128).zip(codes) {
             if code.depths == [0; 128] {

@@ -32,10 +32,8 @@ pub fn book_refusal(book: &Book) -> u32 {
         return 5;
     }
     for cluster in 0..clusters {
-        let c = &book.configs[3 * cluster..][..3];
         for value in 0..256 {
-            let (symbol, extra) = crate::plain::split(value, c[0].into(), c[1].into(), c[2].into());
-            let price = book.symbols[128 * cluster + symbol as usize] + extra as f32;
+            let price = crate::plain::cluster_price(book, cluster, value);
             if price.to_bits() != book.ready[256 * cluster + value as usize].to_bits() {
                 return 6;
             }
@@ -46,7 +44,13 @@ pub fn book_refusal(book: &Book) -> u32 {
 
 pub fn config_passes(s: u8, m: u8, l: u8) -> bool {
     let (s, sum) = (u32::from(s), u32::from(m) + u32::from(l));
-    s <= 6 && sum <= s && 2u32.pow(s) + (17 - s) * 2u32.pow(sum) <= 128
+    s <= 6 && sum <= s
+}
+
+/// Whether every value that a search may code has a symbol that has a price, under every configuration. Else the Rust may index past its 128 prices.
+pub fn all_words(book: &Book) -> bool {
+    let few = |c: &[u8]| 2u32.pow(c[0].into()) + (17 - u32::from(c[0])) * 2u32.pow(u32::from(c[1]) + u32::from(c[2])) <= 128;
+    book.configs.chunks(3).all(few)
 }
 
 /// Checks 7 to 14 and 18: 0, or the first that fails.

@@ -2,7 +2,7 @@
 
 use crate::data::{Block, Book, Search, SEARCHES};
 use crate::entropy::prefix_code::PrefixCode;
-use crate::judge::{due, Original};
+use crate::judge::{due, Original, Source};
 use crate::plain::{Problem, Rule, RULES};
 use crate::random::Random;
 use crate::{blocks, books, checks, made, port, report};
@@ -140,9 +140,19 @@ fn decides(rule: Rule, book: &Book, block: &Block) -> bool {
     })
 }
 
+/// Whether the Rust gets to its end on the block, or is not run at all.
+fn answered(book: &Book, block: &Block) -> bool {
+    let mut original = Original::new();
+    original.take(book);
+    SEARCHES.iter().all(|&search| due(&mut original, search, book, block).source != Source::NoSymbol)
+}
+
 /// The blocks of the fixed list, as class and number: some of each size, two for each check, and more until each rule decides one of them.
 fn listed(seed: u64) -> Vec<(usize, u64)> {
-    let small = |class: usize, index: u64| made(seed, class, index).0.clusters <= FEW_CLUSTERS;
+    let small = |class: usize, index: u64| {
+        let (book, block) = made(seed, class, index);
+        book.clusters <= FEW_CLUSTERS && answered(&book, &block)
+    };
     let mut list: Vec<(usize, u64)> = Vec::new();
     for (class, blocks) in LISTED {
         let numbers = (0..).filter(|&index| small(class, index)).take(blocks);
@@ -172,7 +182,11 @@ fn listed(seed: u64) -> Vec<(usize, u64)> {
 
 /// A book of one cluster with split 4,2,0 and these symbol prices.
 fn one_cluster(symbols: impl Fn(usize) -> f32) -> Book {
-    let mut book = Book { clusters: 1, map: vec![0; 14850], configs: vec![4, 2, 0], ..Book::default() };
+    split_by([4, 2, 0], symbols)
+}
+
+fn split_by(config: [u8; 3], symbols: impl Fn(usize) -> f32) -> Book {
+    let mut book = Book { clusters: 1, map: vec![0; 14850], configs: config.into(), ..Book::default() };
     book.symbols = (0..128).map(symbols).collect();
     books::fill_ready(&mut book);
     book
@@ -195,7 +209,7 @@ fn untrained(later: bool) -> Book {
 
 /// Examples of a search: of document 01 an all-zero block, every symbol at price 1 and then at +infinity, and a block with coefficients that are not numbers
 /// between two good ones; and two blocks whose counts lie in a cluster that nobody trained, which the trellis refused with 15 while that cluster cost
-/// +infinity throughout.
+/// +infinity throughout; a good block under 5,2,2 and 6,3,3, and one with a level of 100, for which 6,3,3 has no word.
 fn examples() -> Vec<(Book, Vec<Block>)> {
     let zeros = Block { lambda: 3.0, channel: 1, ..blocks::empty_block() };
     let mut good = zeros.clone();
@@ -203,12 +217,16 @@ fn examples() -> Vec<(Book, Vec<Block>)> {
     good.levels[1..6].copy_from_slice(&[5, -3, 2, 0, 1]);
     let mut failed = good.clone();
     failed.source[3..5].fill(f32::NAN);
+    let mut far = good.clone();
+    (far.source[1], far.levels[1]) = (100.0, 100);
     vec![
         (one_cluster(|_| 1.0), vec![zeros.clone()]),
         (one_cluster(|_| f32::INFINITY), vec![zeros.clone()]),
         (one_cluster(|symbol| 0.5 + 0.25 * symbol as f32), vec![good.clone(), failed, good.clone()]),
         (untrained(false), vec![zeros.clone(), good.clone()]),
-        (untrained(true), vec![zeros, good]),
+        (untrained(true), vec![zeros, good.clone()]),
+        (split_by([5, 2, 2], |symbol| 0.5 + 0.25 * symbol as f32), vec![good.clone()]),
+        (split_by([6, 3, 3], |symbol| 0.5 + 0.25 * symbol as f32), vec![good, far]),
     ]
 }
 

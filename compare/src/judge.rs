@@ -1,6 +1,6 @@
 //! What is due for a block: by the checks, by the Rust, and by the plain definitions.
 
-use crate::checks::refusal;
+use crate::checks::{all_words, refusal};
 use crate::data::{Block, Book, Outcome, Reply, Search};
 use crate::entropy::entropy_code::door::lent;
 use crate::entropy::FrozenTokenPrices;
@@ -44,6 +44,8 @@ pub enum Source {
     NoChoice,
     /// 16: the Rust left the block as it was.
     NoPath,
+    /// The Rust indexed past symbol 127 and panicked: the plain definitions alone.
+    NoSymbol,
 }
 
 /// Prices of the Rust for one book, with its scratch.
@@ -69,6 +71,10 @@ impl Original {
         IN_THE_RUST.set(true);
         let ended = catch_unwind(AssertUnwindSafe(|| run(search, block, prices, &mut levels, scratch)));
         IN_THE_RUST.set(false);
+        if ended.is_err() {
+            // What it left half done is not used again.
+            self.scratch = Scratch::default();
+        }
         ended.map(|()| levels).map_err(|_| "the Rust panicked".to_string())
     }
 }
@@ -87,6 +93,7 @@ pub fn due(original: &mut Original, search: Search, book: &Book, block: &Block) 
     }
     let levels = match original.levels(search, block) {
         Ok(levels) => levels,
+        Err(_) if !all_words(book) => return Due { outcome: plain, source: Source::NoSymbol, fault: None, tie },
         Err(fault) => return Due { outcome: plain, source: Source::Rust, fault: Some(fault), tie },
     };
     if plain.reply == Reply::Refused(16) {

@@ -149,11 +149,18 @@ pub fn bucket(count: usize) -> usize {
     }
 }
 
-pub fn price(book: &Book, context: usize, value: u32) -> f32 {
-    let cluster = book.map[context] as usize;
+/// The price of a value in a cluster. A symbol above 127 has no word.
+pub fn cluster_price(book: &Book, cluster: usize, value: u32) -> f32 {
     let c = &book.configs[3 * cluster..][..3];
     let (symbol, extra) = split(value, c[0].into(), c[1].into(), c[2].into());
-    book.symbols[128 * cluster + symbol as usize] + extra as f32
+    match book.symbols[128 * cluster..][..128].get(symbol as usize) {
+        Some(price) => price + extra as f32,
+        None => INF,
+    }
+}
+
+pub fn price(book: &Book, context: usize, value: u32) -> f32 {
+    cluster_price(book, book.map[context] as usize, value)
 }
 
 pub fn biased(q: i32, one: f32, numerator: f32) -> f32 {

@@ -29,6 +29,8 @@ pub struct Counts {
     pub differences: u64,
     /// Blocks on which the Rust was not run.
     pub not_compared: u64,
+    /// Blocks where the Rust indexed past symbol 127.
+    pub no_symbol: u64,
 }
 
 #[derive(Default, Clone)]
@@ -48,6 +50,7 @@ impl Tally {
             mine.halves += theirs.halves;
             mine.differences += theirs.differences;
             mine.not_compared += theirs.not_compared;
+            mine.no_symbol += theirs.no_symbol;
             for (&number, &times) in &theirs.refused {
                 *mine.refused.entry(number).or_default() += times;
             }
@@ -65,16 +68,17 @@ impl Counts {
             *self.refused.entry(number).or_default() += 1;
         }
         self.not_compared += u64::from(matches!(source, Source::Checks | Source::NoChoice));
+        self.no_symbol += u64::from(source == Source::NoSymbol);
     }
 }
 
 pub const HEADER: &str =
-    "      c    blocks  search     compared      equal  with ties    changed  with a half  not compared  differ  refused as due (number: times)";
+    "      c    blocks  search     compared      equal  with ties    changed  with a half  not compared  no symbol  differ  refused as due (number: times)";
 
 pub const LEGEND: &str = "\
 compared: the levels with the Rust's, cost and count with the definition's for them. with ties, changed, with a half: of these, where a search met equal costs, changed a level, or may
 restore an ideal that is an exact half. not compared: refused by one of checks 1 to 14 and 18, which narrow the Rust's domain, or by 15, where the Rust has no answer; held to the number and to an
-untouched block. 16: the Rust left the block too.";
+untouched block. 16: the Rust left the block too. no symbol: the Rust indexed past symbol 127 and panicked; held to the plain definitions alone.";
 
 pub fn row(class: &str, tally: &Tally, left_out: &[Search]) -> String {
     let mut text = String::new();
@@ -82,7 +86,7 @@ pub fn row(class: &str, tally: &Tally, left_out: &[Search]) -> String {
         let refused: Vec<String> = counts.refused.iter().map(|(number, times)| format!("{number}: {times}")).collect();
         let note = if left_out.contains(search) { "  (the port's was left out)" } else { "" };
         text += &format!(
-            "{class:>7} {:>9}  {:<8} {:>10} {:>10} {:>10} {:>10} {:>12} {:>13} {:>7}  {}{note}\n",
+            "{class:>7} {:>9}  {:<8} {:>10} {:>10} {:>10} {:>10} {:>12} {:>13} {:>10} {:>7}  {}{note}\n",
             tally.blocks,
             format!("{search:?}"),
             counts.compared,
@@ -91,6 +95,7 @@ pub fn row(class: &str, tally: &Tally, left_out: &[Search]) -> String {
             counts.changed,
             counts.halves,
             counts.not_compared,
+            counts.no_symbol,
             counts.differences,
             refused.join(", "),
         );

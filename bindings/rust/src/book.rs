@@ -45,7 +45,8 @@ impl Book {
         })
     }
 
-    /// The price of a value of at most 131,071 in a context below 14,850.
+    /// The price of a value of at most 131,071 in a context below 14,850. A value whose symbol is above 127 has no word and costs +infinity: with 5,2,2 from
+    /// 2,048 on, with 6,3,0 from 16,384 on. So does a block's count of nonzero levels: large dense blocks can meet refusals 15 and 16.
     pub fn token_bits(&self, context: u32, value: u32) -> Result<f32, Refusal> {
         let (map, configs, symbols, ready) = (&self.map, &self.configs, &self.symbols, &self.ready);
         let mut bits = 0.0;

@@ -47,7 +47,7 @@ pub fn pack_signed(level: i32) -> Result<u32, Refusal> {
     told(|out| unsafe { ffi::rdoq_pack_signed(level, out) })
 }
 
-/// The symbol of a value of at most 131,071, under a configuration that passes check 4.
+/// The symbol of a value of at most 131,071, under a configuration that passes check 4. Symbols above 127 have no price in a book.
 ///
 /// ```
 /// let config = rdoq::Config { split_exponent: 4, msb_in_token: 2, lsb_in_token: 0 };

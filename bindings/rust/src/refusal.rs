@@ -21,7 +21,7 @@ pub enum Refusal {
     BookLength = 2,
     /// An entry of the map is not below the number of clusters.
     MapEntry = 3,
-    /// A configuration needs more than 128 symbols, or is none.
+    /// A configuration (s, m, l) has s > 6 or m + l > s.
     Configuration = 4,
     /// A symbol price is NaN, below 0, or finite and above 1,024.
     SymbolPrice = 5,
@@ -43,7 +43,7 @@ pub enum Refusal {
     Ideal = 13,
     /// The room is too small for the search.
     Room = 14,
-    /// Every choice in the trellis's band needs a token of infinite price.
+    /// Every choice in the trellis's band needs a token of infinite price, or one for which there is no word for want of symbols.
     BandInfinite = 15,
     /// Every path that the beam kept ended at an infinite cost.
     PathsInfinite = 16,
@@ -108,7 +108,7 @@ impl Refusal {
             Refusal::MapLength => "the context map is not 14,850 bytes, or the clusters are not 1 to 256: lend a byte for each context and 1 to 256 clusters",
             Refusal::BookLength => "a part of the book has a wrong length: lend 3 bytes of configuration, 128 symbol prices and 256 ready prices for each cluster (of a prefix code: 128 depths and 1 flag; of an ANS code: 128 frequencies), no more and no less",
             Refusal::MapEntry => "an entry of the context map is not below the number of clusters: mend the map, or add clusters",
-            Refusal::Configuration => "a configuration (s, m, l) has s > 6, m + l > s, or 2^s + (17 - s) * 2^(m+l) > 128: use a smaller one, such as 4,2,0",
+            Refusal::Configuration => "a configuration (s, m, l) has s > 6 or m + l > s: use a smaller one, such as 4,2,0 or 5,2,2",
             Refusal::SymbolPrice => "a symbol price is NaN, below 0, or finite and above 1,024: use +infinity for a symbol that can't be written",
             Refusal::ReadyPrice => "a ready price is not symbol price plus extra bits: fill the book again after a change of prices or configurations",
             Refusal::BlockSide => "a side of the block is not 1, 2, 4, 8, 16 or 32: pass the sides in units of 8 samples",
@@ -119,7 +119,7 @@ impl Refusal {
             Refusal::Level => "a level lies outside -32,767 to 32,767: quantise more coarsely",
             Refusal::Ideal => "source * inverse weight * scale is NaN or outside -32,767 to 32,767 in the window: look for a failed transform or a wrong scale",
             Refusal::Room => "the room is too small for this search: `Room::new` serves every block",
-            Refusal::BandInfinite => "every choice in the trellis's band needs a token of infinite price: give finite prices to the symbols that the block needs",
+            Refusal::BandInfinite => "every choice in the trellis's band needs a token of infinite price, or one for which there is no word for want of symbols: give finite prices to the symbols that the block needs, or use configurations with symbols for its values and its count",
             Refusal::PathsInfinite => "every path that the beam kept ended at an infinite cost: give finite prices to the symbols that the block needs",
             Refusal::Domain => "an argument lies outside the call's domain: the call's documentation gives it",
             Refusal::Sides => "the product of the sides is not what the strategy covers (a 16x16 transform covers 2 by 2 units of 8 samples): pass the strategy and the sides of one block",

@@ -92,6 +92,18 @@ fn a_book_from_a_prefix_code() {
 }
 
 #[test]
+fn a_value_past_the_last_symbol() {
+    for (split, last, price) in [([5, 2, 2], 2_047, 7.0), ([6, 3, 0], 16_383, 11.0), ([6, 3, 3], 127, 1.0)] {
+        // the next cluster's prices are not read
+        let book = BookBuilder::new(vec![0; CONTEXTS], &[split, split]).symbol_prices(vec![1.0; 2 * SYMBOLS]).fill().unwrap();
+        assert_eq!(book.check(), Ok(()));
+        assert_eq!(book.token_bits(0, last), Ok(price));
+        assert_eq!(book.token_bits(0, last + 1), Ok(f32::INFINITY));
+        assert_eq!(book.token_bits_pair(0, last + 1), Ok((f32::INFINITY, f32::INFINITY)));
+    }
+}
+
+#[test]
 fn what_filling_refuses() {
     let good = vec![1.0; SYMBOLS];
     let fill = |map: Vec<u8>, configs: &[[u8; 3]], prices: Vec<f32>| BookBuilder::new(map, configs).symbol_prices(prices).fill();
@@ -102,7 +114,8 @@ fn what_filling_refuses() {
     assert!(fill(map(), &[[4, 2, 0]; 256], vec![1.0; 256 * SYMBOLS]).is_ok());
     assert_eq!(fill(map(), &[[4, 2, 0]], vec![1.0; SYMBOLS - 1]), Err(Refusal::BookLength));
     assert_eq!(fill(vec![1; CONTEXTS], &[[4, 2, 0]], good.clone()), Err(Refusal::MapEntry));
-    assert_eq!(fill(map(), &[[5, 2, 2]], good.clone()), Err(Refusal::Configuration));
+    assert_eq!(fill(map(), &[[5, 3, 3]], good.clone()), Err(Refusal::Configuration));
+    assert_eq!(fill(map(), &[[7, 2, 2]], good.clone()), Err(Refusal::Configuration));
     for (price, passes) in
         [(f32::NAN, false), (-1.0, false), (1_024.5, false), (1_024.0, true), (f32::INFINITY, true), (-0.0, true)]
     {
@@ -138,7 +151,8 @@ fn packing_and_splitting() {
         assert_eq!(uint_encode_with_config(value, config(4, 2, 0)), Ok(Split { symbol, extra_bits, bits }));
     }
     assert_eq!(uint_encode_with_config(131_072, config(4, 2, 0)), Err(OUTSIDE));
-    assert_eq!(uint_encode_with_config(0, config(5, 2, 2)), Err(OUTSIDE));
+    assert_eq!(uint_encode_with_config(2_048, config(5, 2, 2)), Ok(Split { symbol: 128, extra_bits: 7, bits: 0 }));
+    assert_eq!(uint_encode_with_config(0, config(5, 3, 3)), Err(OUTSIDE));
     assert_eq!(uint_encode_with_config(0, config(7, 0, 0)), Err(OUTSIDE));
     assert_eq!(uint_encode_with_config(0, config(4, 256, 0)), Err(OUTSIDE));
 }

@@ -207,7 +207,7 @@ fn wrong_books_are_refused() {
     let mut wrong = map.clone();
     wrong[CONTEXTS - 1] = 1;
     with(1, wrong, configs.clone(), symbols.clone(), ready.clone()).refused(Refusal::MapEntry);
-    with(1, map.clone(), vec![5, 2, 2], symbols.clone(), ready.clone()).refused(Refusal::Configuration);
+    with(1, map.clone(), vec![5, 3, 3], symbols.clone(), ready.clone()).refused(Refusal::Configuration);
     let mut wrong = symbols.clone();
     wrong[127] = -1.0;
     with(1, map.clone(), configs.clone(), wrong, ready.clone()).refused(Refusal::SymbolPrice);
@@ -271,7 +271,7 @@ fn the_room_that_each_search_needs() {
 fn a_room_by_covered_blocks_serves_a_large_block() {
     // 4 by 8 units: 32 covered blocks, a window of 1,024
     let mut given = Given::zero();
-    given.shape = Shape { cx: 4, cy: 8, ..given.shape };
+    given.shape = Shape { cx: 4, cy: 8, strategy: 19, ..given.shape };
     given.scan = (0..2_048).rev().collect();
     given.source = vec![0.0; 2_048];
     given.inv_qm = vec![1.0; 2_048];

@@ -15,7 +15,7 @@ pub const DENSITIES: [(&str, f32); 3] = [("a third nonzero", 0.33), ("sparse (1 
 pub const CLUSTERS: [usize; 4] = [1, 8, 64, 256];
 
 /// Their configurations: s, m, l.
-pub const CONFIGS: [[u8; 3]; 4] = [[4, 2, 0], [6, 2, 0], [4, 3, 0], [4, 2, 1]];
+pub const CONFIGS: [[u8; 3]; 6] = [[4, 2, 0], [6, 2, 0], [4, 3, 0], [4, 2, 1], [5, 2, 2], [6, 3, 3]];
 
 /// Clusters of the book that the searches run on, of the first configuration.
 pub const SEARCHED: usize = 8;
@@ -30,10 +30,16 @@ pub fn needed(search: Search, c: usize) -> (usize, usize) {
 }
 
 /// Symbol, and number of extra bits.
-pub fn split(value: u32, config: &[u8]) -> (u32, u32) {
+fn split(value: u32, config: &[u8]) -> (u32, u32) {
     let [s, m, l] = [0, 1, 2].map(|at| u32::from(config[at]));
     let (symbol, extra, _) = uint_encode_with_config(value, HybridUintConfig { s, m, l });
     (symbol, extra)
+}
+
+/// The price of a value by the 128 symbol prices of its cluster. A symbol above 127 has no word.
+pub fn price(symbols: &[f32], value: u32, config: &[u8]) -> f32 {
+    let (symbol, extra) = split(value, config);
+    symbols[..128].get(symbol as usize).map_or(f32::INFINITY, |price| price + extra as f32)
 }
 
 pub fn book(clusters: usize, config: [u8; 3]) -> Book {
@@ -44,8 +50,7 @@ pub fn book(clusters: usize, config: [u8; 3]) -> Book {
         book.configs.extend(config);
         let symbols: Vec<f32> = (0..128).map(|symbol| 1.0 + 0.125 * symbol as f32).collect();
         for value in 0..256 {
-            let (symbol, extra) = split(value, &config);
-            book.ready.push(symbols[symbol as usize] + extra as f32);
+            book.ready.push(price(&symbols, value, &config));
         }
         book.symbols.extend(symbols);
     }

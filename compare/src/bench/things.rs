@@ -201,8 +201,7 @@ fn plain_loop(book: &Book) -> u32 {
     for cluster in 0..book.clusters as usize {
         let config = &book.configs[3 * cluster..3 * cluster + 3];
         for value in 0..256 {
-            let (symbol, extra) = inputs::split(value as u32, config);
-            let price = book.symbols[128 * cluster + symbol as usize] + extra as f32;
+            let price = inputs::price(&book.symbols[128 * cluster..], value as u32, config);
             if price.to_bits() != book.ready[256 * cluster + value].to_bits() {
                 return 6;
             }

@@ -45,6 +45,14 @@ extern "C" {
     fn rdoq_candidates(ideal: f32, current: i32, restore: bool, levels: *mut i32, levels_len: usize, count: *mut u32) -> u32;
     fn rdoq_window_len(covered: u32, length: *mut usize, restoring: *mut usize) -> u32;
     fn rdoq_ans_symbol_bits(clusters: u32, freqs: *const u16, freqs_len: usize, symbols: *mut f32, symbols_len: usize) -> u32;
+    fn rdoq_check_book(
+        clusters: u32, map: *const u8, map_len: usize, configs: *const u8, configs_len: usize, symbols: *const f32, symbols_len: usize,
+        ready: *const f32, ready_len: usize,
+    ) -> u32;
+    fn rdoq_fill_ready(
+        clusters: u32, map: *const u8, map_len: usize, configs: *const u8, configs_len: usize, symbols: *const f32, symbols_len: usize,
+        ready: *mut f32, ready_len: usize,
+    ) -> u32;
     fn rdoq_prefix_symbol_bits(
         clusters: u32, depths: *const u8, depths_len: usize, singles: *const u8, singles_len: usize, strict: bool, symbols: *mut f32,
         symbols_len: usize,
@@ -104,17 +112,15 @@ fn packing() -> Tally {
 }
 
 fn splitting() -> Tally {
-    let mut tally = Tally::new("uint_encode_with_config", "all values under all configurations");
-    for s in 0..=6u8 {
-        for (m, l) in (0..=s).flat_map(|m| (0..=s - m).map(move |l| (m, l))).filter(|&(m, l)| checks::config_passes(s, m, l)) {
-            let config = crate::entropy::token::HybridUintConfig { s: s.into(), m: m.into(), l: l.into() };
-            for value in 0..=131_071 {
-                let mut out = [0u32; 3];
-                let [symbol, extra, bits] = &mut out;
-                let code = unsafe { rdoq_uint_encode_with_config(value, s.into(), m.into(), l.into(), symbol, extra, bits) };
-                let (symbol, extra, bits) = crate::entropy::token::uint_encode_with_config(value, config);
-                tally.hold((code, out), (0, [symbol, extra, bits]), (value, s, m, l));
-            }
+    let mut tally = Tally::new("uint_encode_with_config", "all values under all 84 configurations");
+    for [s, m, l] in configurations() {
+        let config = crate::entropy::token::HybridUintConfig { s: s.into(), m: m.into(), l: l.into() };
+        for value in 0..=131_071 {
+            let mut out = [0u32; 3];
+            let [symbol, extra, bits] = &mut out;
+            let code = unsafe { rdoq_uint_encode_with_config(value, s.into(), m.into(), l.into(), symbol, extra, bits) };
+            let (symbol, extra, bits) = crate::entropy::token::uint_encode_with_config(value, config);
+            tally.hold((code, out), (0, [symbol, extra, bits]), (value, s, m, l));
         }
     }
     tally
@@ -285,46 +291,129 @@ fn ans_prices() -> Tally {
     tally
 }
 
-fn price_calls() -> Tally {
-    let mut tally = Tally::new("token_bits, token_bits_pair", "all values, each in a drawn context, in 30 books");
-    let mut random = Random::of(&[19]);
-    let mut made = 0;
-    while made < 30 {
-        let book = books::random_book(&mut random);
-        if checks::book_refusal(&book) != 0 {
-            continue;
-        }
-        made += 1;
-        let frozen = prices::lent(&book);
-        for value in 0..=131_071 {
-            let context = random.below(14_849) as u32;
-            let ours = float(|out| unsafe {
-                rdoq_token_bits(
-                    book.clusters, book.map.as_ptr(), book.map.len(), book.configs.as_ptr(), book.configs.len(), book.symbols.as_ptr(),
-                    book.symbols.len(), book.ready.as_ptr(), book.ready.len(), context, value, out,
-                )
-            });
-            tally.hold(ours, (0, prices::token_bits(&frozen, context, value).to_bits()), (made, context, value));
-            let mut both = [f32::NAN; 2];
-            let [first, second] = &mut both;
+/// A book of these configurations by turns, its prices the Rust's from drawn prefix codes or drawn, some of them infinite.
+fn book_of(random: &mut Random, configs: &[[u8; 3]]) -> data::Book {
+    let clusters = configs.len();
+    let map = (0..14850).map(|_| random.below(clusters) as u8).collect();
+    let mut book = data::Book { clusters: clusters as u32, map, configs: configs.concat(), ..data::Book::default() };
+    if random.once_in(2) {
+        let codes: Vec<_> = (0..clusters).map(|_| books::prefix_code(random)).collect();
+        books::price_prefix(&mut book, &codes, random.once_in(2));
+    } else {
+        let price = |random: &mut Random| if random.once_in(20) { f32::INFINITY } else { random.between(0.0, 12.0) };
+        book.symbols = (0..128 * clusters).map(|_| price(random)).collect();
+        books::fill_ready(&mut book);
+    }
+    book
+}
+
+/// The configurations that pass check 4.
+fn configurations() -> Vec<[u8; 3]> {
+    let all = (0..=6u8).flat_map(|s| (0..=s).flat_map(move |m| (0..=s - m).map(move |l| [s, m, l])));
+    let all: Vec<_> = all.collect();
+    assert_eq!(all.len(), 84);
+    all
+}
+
+fn check(book: &data::Book) -> u32 {
+    unsafe {
+        rdoq_check_book(
+            book.clusters, book.map.as_ptr(), book.map.len(), book.configs.as_ptr(), book.configs.len(), book.symbols.as_ptr(), book.symbols.len(),
+            book.ready.as_ptr(), book.ready.len(),
+        )
+    }
+}
+
+/// Filled ready prices are those of the book (the Rust's, where it made them); they pass check 6, and with one bit of one of them changed they do not.
+fn ready_prices() -> Tally {
+    let mut tally = Tally::new("fill_ready, check_book", "6 books of each configuration; each ready price one bit off");
+    let mut random = Random::of(&[29]);
+    for config in configurations() {
+        for made in 0..6 {
+            let mut book = book_of(&mut random, &[config, [4, 2, 0]]);
+            let mut ready = vec![f32::NAN; book.ready.len()];
             let code = unsafe {
-                rdoq_token_bits_pair(
+                rdoq_fill_ready(
                     book.clusters, book.map.as_ptr(), book.map.len(), book.configs.as_ptr(), book.configs.len(), book.symbols.as_ptr(),
-                    book.symbols.len(), book.ready.as_ptr(), book.ready.len(), context, value, first, second,
+                    book.symbols.len(), ready.as_mut_ptr(), ready.len(),
                 )
             };
-            let theirs = prices::token_bits_pair(&frozen, context, value).map(f32::to_bits);
-            tally.hold((code, both.map(f32::to_bits)), (0, theirs), (made, context, value));
+            let bits = |prices: &[f32]| prices.iter().map(|price| price.to_bits()).collect::<Vec<_>>();
+            tally.hold((code, bits(&ready)), (0, bits(&book.ready)), (config, made));
+            tally.hold(check(&book), 0, (config, made));
+            for at in 0..book.ready.len() {
+                let right = book.ready[at];
+                book.ready[at] = f32::from_bits(right.to_bits() ^ 1 << random.below(32));
+                tally.hold(check(&book), 6, (config, made, at));
+                book.ready[at] = right;
+            }
         }
     }
     tally
 }
 
+/// Both price calls on one book, every value in a drawn context. A value that has no word is held to +infinity: there the Rust indexes past 127.
+fn price_book(random: &mut Random, made: usize, book: &data::Book, tally: &mut Tally, none: &mut Tally) {
+    let frozen = prices::lent(book);
+    for value in 0..=131_071 {
+        let context = random.below(14_849) as u32;
+        let has_word = |context: u32| {
+            let c = &book.configs[3 * usize::from(book.map[context as usize])..][..3];
+            value < 256 || plain::split(value, c[0].into(), c[1].into(), c[2].into()).0 < 128
+        };
+        let theirs = |context: u32| if has_word(context) { prices::token_bits(&frozen, context, value) } else { f32::INFINITY }.to_bits();
+        let ours = float(|out| unsafe {
+            rdoq_token_bits(
+                book.clusters, book.map.as_ptr(), book.map.len(), book.configs.as_ptr(), book.configs.len(), book.symbols.as_ptr(),
+                book.symbols.len(), book.ready.as_ptr(), book.ready.len(), context, value, out,
+            )
+        });
+        let counted = if has_word(context) { &mut *tally } else { &mut *none };
+        counted.hold(ours, (0, theirs(context)), (made, context, value));
+        let mut pair = [f32::NAN; 2];
+        let [first, second] = &mut pair;
+        let code = unsafe {
+            rdoq_token_bits_pair(
+                book.clusters, book.map.as_ptr(), book.map.len(), book.configs.as_ptr(), book.configs.len(), book.symbols.as_ptr(),
+                book.symbols.len(), book.ready.as_ptr(), book.ready.len(), context, value, first, second,
+            )
+        };
+        let pair = (code, pair.map(f32::to_bits));
+        if has_word(context) && has_word(context + 1) {
+            tally.hold(pair, (0, prices::token_bits_pair(&frozen, context, value).map(f32::to_bits)), (made, context, value));
+        } else {
+            none.hold(pair, (0, [theirs(context), theirs(context + 1)]), (made, context, value));
+        }
+    }
+}
+
+/// Drawn books, and books of 5,2,2, 6,3,0 and 6,m,6-m alone.
+fn price_calls() -> [Tally; 2] {
+    let mut tally = Tally::new("token_bits, token_bits_pair", "all values, each in a drawn context, in 100 books");
+    let mut none = Tally::new("the same, values that have no word", "held to +infinity; the Rust would index past 127");
+    let mut random = Random::of(&[19]);
+    let mut made = 0;
+    while made < 80 {
+        let book = books::random_book(&mut random);
+        if checks::book_refusal(&book) == 0 {
+            price_book(&mut random, made, &book, &mut tally, &mut none);
+            made += 1;
+        }
+    }
+    let past: Vec<[u8; 3]> = [[5, 2, 2], [6, 3, 0]].into_iter().chain((0..=6).map(|m| [6, m, 6 - m])).collect();
+    while made < 100 {
+        let configs: Vec<_> = (0..1 + random.below(4)).map(|_| random.pick(&past)).collect();
+        let book = book_of(&mut random, &configs);
+        price_book(&mut random, made, &book, &mut tally, &mut none);
+        made += 1;
+    }
+    [tally, none]
+}
+
 fn main() {
-    let parts = [packing, splitting, block_contexts, count_contexts, coefficient_contexts, levels, weights, candidates, prefix_prices, ans_prices, price_calls];
+    let parts = [packing, splitting, block_contexts, count_contexts, coefficient_contexts, levels, weights, candidates, prefix_prices, ans_prices, ready_prices];
     let mut differences = 0;
-    for part in parts {
-        let tally = part();
+    for tally in parts.into_iter().map(|part| part()).chain(std::iter::once_with(price_calls).flatten()) {
         println!("{:<62} {:>11} calls {:>4} differences   {}", tally.name, tally.calls, tally.differences, tally.domain);
         differences += tally.differences;
     }

@@ -1,1 +1,2 @@
 mod Priced
+mod NoWord

@@ -11,7 +11,7 @@ ghost use Rattle.prices.specs.Checks.{bookRefusal, fillRefusal};
 ghost use Rattle.book_build.specs.Fill.{filledReady};
 ghost use Rattle.book_build.specs.Prefix.{prefixOf, prefixRefusal, prefixSymbols};
 ghost use Rattle.ans_build.specs.Ans.{ansRefusal, ansSymbols};
-ghost use Rattle.book_calls.specs.Prices.{priceReply, pairReply};
+ghost use Rattle.book_calls.specs.Prices.{priceReply, pairReply, Priced, PairPriced};
 
 // The number of the first check among 1 to 6 that a book fails, or 0.
 pub fn check_book(clusters: u32, map: &[u8], configs: &[u8], symbols: &[f32], ready: &[f32]) -> u32
@@ -59,8 +59,8 @@ pub fn ans_symbol_bits(clusters: u32, freqs: &[u16], symbols: &mut [f32]) -> u32
     ans_build::ans_symbol_bits(clusters, freqs, symbols)
 }
 
-// The price of a value of at most 131,071 in a context. Looks at the entries that it reads and at no others.
-pub fn token_bits(
+// What `token_bits` answers, here and over a view.
+pub(crate) fn price_in(
     clusters: u32,
     map: &[u8],
     configs: &[u8],
@@ -78,8 +78,23 @@ pub fn token_bits(
     }
 }
 
-// The prices of a value in a context and the next one.
-pub fn token_bits_pair(
+// The price of a value of at most 131,071 in a context; +infinity for a value that has no word. Looks at the entries that it reads and at no others.
+pub fn token_bits(
+    clusters: u32,
+    map: &[u8],
+    configs: &[u8],
+    symbols: &[f32],
+    ready: &[f32],
+    context: u32,
+    value: u32,
+) -> Real
+    ensures { λ r. ⌜ Priced (bookOf clusters (now (map .entry)) (now (configs .entry)) (now (symbols .entry)) (now (ready .entry))) context value r ⌝ }
+{
+    price_in(clusters, map, configs, symbols, ready, context, value)
+}
+
+// What `token_bits_pair` answers, here and over a view.
+pub(crate) fn prices_in(
     clusters: u32,
     map: &[u8],
     configs: &[u8],
@@ -103,4 +118,19 @@ pub fn token_bits_pair(
         PricePair::Bits(first, second) => RealPair::Value(first, second),
         PricePair::Refused(_) => RealPair::Refused(OUTSIDE),
     }
+}
+
+// The prices of a value in a context and the next one.
+pub fn token_bits_pair(
+    clusters: u32,
+    map: &[u8],
+    configs: &[u8],
+    symbols: &[f32],
+    ready: &[f32],
+    context: u32,
+    value: u32,
+) -> RealPair
+    ensures { λ r. ⌜ PairPriced (bookOf clusters (now (map .entry)) (now (configs .entry)) (now (symbols .entry)) (now (ready .entry))) context value r ⌝ }
+{
+    prices_in(clusters, map, configs, symbols, ready, context, value)
 }

@@ -13,7 +13,7 @@ ghost use Rattle.book_calls.specs.Prices.{priceReply, pairReply};
 pub fn token_bits<'a>(view: PriceView<'a>, context: u32, value: u32) -> Real
     ensures { λ r. ⌜ r ≡ priceReply (bookIn (view .entry)) context value ⌝ }
 {
-    crate::book::token_bits(
+    crate::book::price_in(
         view.clusters,
         view.map,
         view.configs,
@@ -28,7 +28,7 @@ pub fn token_bits<'a>(view: PriceView<'a>, context: u32, value: u32) -> Real
 pub fn token_bits_pair<'a>(view: PriceView<'a>, context: u32, value: u32) -> RealPair
     ensures { λ r. ⌜ r ≡ pairReply (bookIn (view .entry)) context value ⌝ }
 {
-    crate::book::token_bits_pair(
+    crate::book::prices_in(
         view.clusters,
         view.map,
         view.configs,

@@ -75,6 +75,8 @@ fn configurations(map: &[u8]) {
     configuration(b"4,2,1: ", map, 4, 2, 1);
     configuration(b"6,2,0: ", map, 6, 2, 0);
     configuration(b"5,2,2: ", map, 5, 2, 2);
+    configuration(b"6,3,0: ", map, 6, 3, 0);
+    configuration(b"6,3,3: ", map, 6, 3, 3);
     configuration(b"7,0,0: ", map, 7, 0, 0);
     configuration(b"2,2,1: ", map, 2, 2, 1);
 }
@@ -144,6 +146,22 @@ fn ready_prices(map: &[u8]) {
         0,
         -0.0,
     );
+}
+
+// Under 6,3,3 the value 128 has symbol 128, which has no price.
+fn ready_without_a_word(text: &[u8], map: &[u8], kept: f32) {
+    let configs: [u8; 3] = [6, 3, 3];
+    let symbols: [f32; 128] = [1.0; 128];
+    let mut ready: [f32; 256] = [0.0; 256];
+    fill_ready(1, map, &configs, &symbols, &mut ready);
+    ready[128] = kept;
+    say(text, check_book(1, map, &configs, &symbols, &ready));
+}
+
+fn ready_without_words(map: &[u8]) {
+    ready_without_a_word(b"6,3,3, ready price of 128 +infinity: ", map, infinity());
+    ready_without_a_word(b"6,3,3, ready price of 128 2: ", map, 2.0);
+    ready_without_a_word(b"6,3,3, ready price of 128 15: ", map, 15.0);
 }
 
 fn lengths(map: &[u8], text: &[u8], clusters: u32, c: usize, s: usize, r: usize)
@@ -273,6 +291,27 @@ fn prices(map: &[u8]) {
     price_and_pair(b"price past the last context: ", map, 14850, 0);
 }
 
+// A value under a configuration, in the first of two clusters with symbol price 1: past symbol 127 there is no word, and not the next cluster's.
+fn split_price(text: &[u8], map: &[u8], s: u8, m: u8, l: u8, value: u32) {
+    let configs: [u8; 6] = [s, m, l, s, m, l];
+    let symbols: [f32; 256] = [1.0; 256];
+    let mut ready: [f32; 512] = [0.0; 512];
+    fill_ready(2, map, &configs, &symbols, &mut ready);
+    say_price(
+        text,
+        token_bits(2, map, &configs, &symbols, &ready, 0, value),
+    );
+}
+
+fn split_prices(map: &[u8]) {
+    split_price(b"5,2,2, price of 2,047: ", map, 5, 2, 2, 2047);
+    split_price(b"5,2,2, price of 2,048: ", map, 5, 2, 2, 2048);
+    split_price(b"6,3,0, price of 16,383: ", map, 6, 3, 0, 16383);
+    split_price(b"6,3,0, price of 16,384: ", map, 6, 3, 0, 16384);
+    split_price(b"6,3,3, price of 127: ", map, 6, 3, 3, 127);
+    split_price(b"6,3,3, price of 128: ", map, 6, 3, 3, 128);
+}
+
 fn short_map(map: &[u8])
     requires { ⌜ 14850 ≡ length (now map) ⌝ }
 {
@@ -300,10 +339,12 @@ fn main() {
     configurations(&map);
     symbol_prices(&map);
     ready_prices(&map);
+    ready_without_words(&map);
     all_lengths(&map);
     prefix_codes(&map);
     untrained_cluster(&mut map);
     prices(&map);
+    split_prices(&map);
     short_map(&map);
     map_entry(&mut map);
 }

@@ -18,9 +18,12 @@ use Rattle.book_rows.specs.Row.{lineKept, fourKept, lineFour, runKept}
 pub power-fours : (k : ℕ) → 2 ≤ k → 2 ^ k ≡ 2 ^ (k - 2) * 4
 power-fours k h = ap (λ (j : ℕ). 2 ^ j) (omega arith) ∙ pow-add 2 (k - 2) 2
 
-four : (f : ℕ → Bool) → each 4 f ≡ (f 0 && f 1 && f 2 && f 3)
+pub four : (f : ℕ → Bool) → each 4 f ≡ (f 0 && f 1 && f 2 && f 3)
 unfolding each
 four f = refl
+
+pub and-four : {a b c d a' b' c' d' : Bool} → a ≡ a' → b ≡ b' → c ≡ c' → d ≡ d' → (a && b && c && d) ≡ (a' && b' && c' && d')
+and-four ea eb ec ed = rw (ea, eb, ec, ed) refl
 
 four-mod : (i k t : ℕ) → t < 4 → (i * 4 + t) % (2 ^ k * 4) ≡ 4 * (i % 2 ^ k) + t
 four-mod i k t h =
@@ -56,9 +59,6 @@ module _ (symbols ready : List Float) (from to : ℕ) where
         (ap (λ (n : ℕ). each n (runKept symbols ready from to l bits)) (power-fours (l + bits) h)
         ∙ each-blocks (runKept symbols ready from to l bits) 4 (2 ^ (l + bits - 2))
         ∙ each-same _ g (2 ^ (l + bits - 2)) (λ i k. four (λ t. runKept symbols ready from to l bits (i * 4 + t)) ∙ same i))
-
-    and-four : {a b c d a' b' c' d' : Bool} → a ≡ a' → b ≡ b' → c ≡ c' → d ≡ d' → (a && b && c && d) ≡ (a' && b' && c' && d')
-    and-four ea eb ec ed = rw (ea, eb, ec, ed) refl
 
     -- one or two symbols
     pub run-turns : (l : ℕ) → l < 2 → 2 ≤ l + bits

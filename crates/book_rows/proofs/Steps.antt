@@ -15,7 +15,7 @@ use mathlib.Core.List.{List}
 use Rattle.costs.specs.Cost.{cost}
 use Rattle.costs.proofs.Order.{same-test, eq→le, le→eq, le-refl, le-antisymm}
 use Rattle.prices.specs.Book.{Book, clusterPrice, clusterSymbol}
-use Rattle.prices.proofs.Costs.{cluster-cost, symbol-within, sum-above}
+use Rattle.prices.proofs.Costs.{cluster-cost, symbol-priced, sum-above}
 use Rattle.book_rows.specs.Row.{Row, above}
 use Rattle.prices.specs.Checks.{symbolPrice, sameBits}
 use Rattle.prices.proofs.Passed.{Sound, same-float}
@@ -54,7 +54,7 @@ other-bits x y e = ne-eqb _ _ e
 -- every price of a cluster is a cost
 pub row-cost : {configs : List ℕ} {symbols ready : List Float} {k : ℕ} → Row configs symbols ready k → (v : ℕ) → v ≤ 131071 → T (cost (clusterPrice configs symbols k v))
 row-cost {configs} {symbols} {ready} {k} r v h =
-    cluster-cost configs symbols k v h (r .prices (clusterSymbol configs k v) (symbol-within configs k v (r .valid) h))
+    cluster-cost configs symbols k v h (symbol-priced symbols k (clusterSymbol configs k v) (r .prices))
 
 pub sound-row : (b : Book) → Sound b → (k : ℕ) → k < b .clusters → Row (b .configs) (b .symbols) (b .ready) k
 sound-row b p k h =

@@ -1,8 +1,9 @@
 -- What checks 1 to 5 leave of one cluster.
 use Prim.Native.Nat.{ℕ, _+_, _*_, _%_, _^_, _<_}
 use mathlib.Core.Path.{_≡_}
-use mathlib.Core.Bool.{Bool, true, false, _&&_}
+use mathlib.Core.Bool.{Bool, true, false, cond, _&&_}
 use mathlib.Core.List.{List}
+use lib.Dec.{eqb}
 use lib.ListN.{length}
 use lib.IntN.{pos}
 use lib.Ieee.{Float, fin, lt, add, ofInt, binary32}
@@ -40,3 +41,8 @@ runKept symbols ready from to l bits i = sameBits (at ready (to + i)) (add binar
 -- 2 ^ m runs of 2 ^ (l + bits) ready prices follow one another, each with the next 2 ^ l symbols.
 unfoldable pub octaveKept : List Float → List Float → ℕ → ℕ → ℕ → ℕ → ℕ → Bool
 octaveKept symbols ready from to m l bits = each (2 ^ m) (λ i. each (2 ^ (l + bits)) (runKept symbols ready (from + i * 2 ^ l) (to + i * 2 ^ (l + bits)) l bits))
+
+-- How many of the octaves below 256 (values with the same top bit) have symbols below 128, where `both` = m + l bits of a value stand in its symbol. An octave's symbols lie
+-- all below 128 or all past it, and past it those of 6,m,6-m alone, with top bit 7.
+unfoldable pub pricedOctaves : ℕ → ℕ
+pricedOctaves both = cond (eqb both 6) 7 8

@@ -8,7 +8,7 @@ ghost use lib.Ieee.{add, binary32};
 ghost use Rattle.costs.specs.Cost.{cost};
 ghost use Rattle.prices.specs.Book.{at};
 ghost use Rattle.prices.specs.Checks.{each, symbolPrice, sameBits, rowKept};
-ghost use Rattle.book_rows.specs.Row.{Row, above, lineKept, fourKept, lineFour, runKept, octaveKept};
+ghost use Rattle.book_rows.specs.Row.{Row, above, lineKept, fourKept, lineFour, runKept, octaveKept, pricedOctaves};
 
 // 0 where two floats have the same bits, else 1. A NaN has no bits of its own, and no price is one.
 pub fn differs(kept: f32, price: f32) -> u32
@@ -169,7 +169,18 @@ fn octave_kept(
     true
 }
 
+// How many octaves below 256 have symbols that have prices, with `both` bits of a value in its symbol: all, but for 6,m,6-m the last.
+fn priced_octaves(both: u32) -> u32
+    ensures { λ r. ⌜ r ≡ pricedOctaves both ⌝ }
+{
+    if both == 6 {
+        return 7;
+    }
+    8
+}
+
 // Check 6 for one cluster. Values with top bit n are 2^m runs: in a run all but the low bits of the symbol stay, and so do the extra bits.
+// Where they have no symbols, their prices are +infinity.
 fn row_kept(configs: &[u8], symbols: &[f32], ready: &[f32], cluster: usize) -> bool
     requires { ⌜ Row (now configs) (now symbols) (now ready) cluster ⌝ }
     ensures { λ r. ⌜ r ≡ rowKept (now (configs .entry)) (now (symbols .entry)) (now (ready .entry)) cluster ⌝ }
@@ -183,7 +194,8 @@ fn row_kept(configs: &[u8], symbols: &[f32], ready: &[f32], cluster: usize) -> b
         return false;
     }
     let mut from = 128 * cluster + small;
-    while n < 8 {
+    let end = priced_octaves(m + l);
+    while n < end {
         let to = 256 * cluster + packing::power(n) as usize;
         if octave_kept(symbols, ready, from, to, m, l, n - m - l) {
             from += packing::power(m + l) as usize;
@@ -191,6 +203,10 @@ fn row_kept(configs: &[u8], symbols: &[f32], ready: &[f32], cluster: usize) -> b
         } else {
             return false;
         }
+    }
+    if end < 8 {
+        let none = costs::infinity();
+        return turns_kept(ready, 256 * cluster + 128, 32, none, none);
     }
     true
 }

@@ -36,5 +36,5 @@ read-told s k buffer before {answer} {after} {code} {size} r ec es =
     let c : code ≡ R = ec ∙ ap lengthCode (r .settled) ∙ code-reply R n in
     let l : size ≡ cond (eqb R 0) n before = es ∙ ap (λ (a : Length). lengthAfter a before) (r .settled) ∙ after-reply R n before in
     let t : told answer after ≡ reply code (cond (eqb code 0) (take size after) []) =
-        ap (λ (a : Length). told a after) (r .settled) ∙ told-reply R n before after ∙ sym (ap₂ (λ (m : ℕ) (v : ℕ). reply m (cond (eqb m 0) (take v after) [])) c l) in
+    ap (λ (a : Length). told a after) (r .settled) ∙ told-reply R n before after ∙ sym (ap₂ (λ (m : ℕ) (v : ℕ). reply m (cond (eqb m 0) (take v after) [])) c l) in
     record { settled = c; sized = l; tokens = r .tokens; kept = rw t at (r .kept) }

@@ -21,7 +21,12 @@ fn tell_length(answer: Length, out: &mut usize) -> u32
 
 // Holds the tokens under a block number, in place of a run already there.
 #[no_mangle]
-pub extern "C" fn rdoq_store_put(room: &mut [u64], rec: &mut [u64], block: u32, tokens: &[u64]) -> u32
+pub extern "C" fn rdoq_store_put(
+    room: &mut [u64],
+    rec: &mut [u64],
+    block: u32,
+    tokens: &[u64],
+) -> u32
     ensures { λ r. ⌜ Put (storeOf (now (room .entry)) (now (rec .entry))) block (now (tokens .entry)) r (storeOf (now (room .exit)) (now (rec .exit))) ⌝ }
 {
     store_calls::store::put(room, rec, block, tokens)

@@ -4,7 +4,7 @@ use Prim.Native.Nat.{ℕ, zero, suc, _+_, _-_, _*_, _/_, _%_, _^_, _≤_, _<_}
 use mathlib.Core.Path.{_≡_, refl, ap, ap₂, _∙_, subst, subst⁻¹, sym}
 use mathlib.Core.Bool.{Bool, true, false, _&&_, false≢true}
 use native.Mathlib.Omega.{arith}
-use native.Mathlib.Nat.{le-trans, lt-of-lt-of-le, lt-of-le-of-lt, mod-lt, div-eq-of-lt-le, mul-le-mul-right, lt-irrefl, le-add-right, le-of-eq, add-comm, one-mul, pow-succ', le-div-iff-mul-le}
+use native.Mathlib.Nat.{le-trans, lt-of-lt-of-le, lt-of-le-of-lt, mod-lt, div-eq-of-lt-le, mul-le-mul, mul-le-mul-right, lt-irrefl, le-add-right, le-of-eq, add-comm, one-mul, pow-succ', le-div-iff-mul-le}
 use lib.Pow as Pow
 use lib.Arith.{digits-lt}
 use lib.Dec.{ltb, leb}
@@ -373,7 +373,6 @@ module _ (s m l : ℕ) (h : m + l ≤ s) where
 pub record Valid (s m l : ℕ) : Type 0 where
   pub small : s ≤ 6
   pub within : m + l ≤ s
-  pub room : 2 ^ s + (17 - s) * 2 ^ (m + l) ≤ 128
 
 both : (a b : Bool) → a && b ≡ true → (a ≡ true) × (b ≡ true)
 both true b e = (refl, e)
@@ -383,13 +382,15 @@ pub valid : (s m l : ℕ) → validConfig s m l ≡ true → Valid s m l
 unfolding validConfig
 valid s m l e =
     let p = both _ _ e in
-    let q = both _ _ (p .0) in
-    record { small = leb-true s 6 (q .0); within = leb-true (m + l) s (q .1); room = leb-true _ 128 (p .1) }
+    record { small = leb-true s 6 (p .0); within = leb-true (m + l) s (p .1) }
 
-pub symbol-fits : (s m l v : ℕ) → validConfig s m l ≡ true → v ≤ 131071 → symbolOf s m l v < 128
+-- Its symbols are few.
+pub symbol-fits : (s m l v : ℕ) → validConfig s m l ≡ true → v ≤ 131071 → symbolOf s m l v < 1152
 symbol-fits s m l v e hv =
     let p = valid s m l e in
-    lt-of-lt-of-le (symbol-below s m l (p .within) v hv) (p .room)
+    let small : 2 ^ s ≤ 2 ^ 6 = pow-mono (p .small) in
+    let few : (17 - s) * 2 ^ (m + l) ≤ 17 * 64 = mul-le-mul {n₂ = 17} {m₂ = 64} (omega arith) (pow-mono {j = 6} (le-trans (p .within) (p .small))) in
+    lt-of-lt-of-le (symbol-below s m l (p .within) v hv) (omega arith)
 
 -- at most 16 extra bits
 pub extra-bits-few : (s m l v : ℕ) → v ≤ 131071 → extraBitsOf s m l v ≤ 16

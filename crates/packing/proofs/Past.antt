@@ -13,7 +13,7 @@ pub record Past (s m l v n : ℕ) : Type 0 where
   pub most : n ≤ 16
   pub few : s ≤ 6
   pub within : m + l ≤ s
-  pub fits : 2 ^ s + (n - s) * 2 ^ (m + l) + v / 2 ^ (n - m) % 2 ^ m * 2 ^ l + v % 2 ^ l < 128
+  pub fits : 2 ^ s + (n - s) * 2 ^ (m + l) + v / 2 ^ (n - m) % 2 ^ m * 2 ^ l + v % 2 ^ l < 1152
 
 pub past : (s m l v n : ℕ) → validConfig s m l ≡ true → v ≤ 131071 → 2 ^ s ≤ v → n ≡ topBit v → Past s m l v n
 past s m l v n ok hv big e =

@@ -62,7 +62,7 @@ pub fn top_bit(v: u32) -> u32
     31 - u32::leading_zeros(v)
 }
 
-// Whether a configuration passes check 4. The powers are computed only of exponents that passed.
+// Whether a configuration passes check 4.
 pub fn valid_config(s: u8, m: u8, l: u8) -> bool
     ensures { λ r. ⌜ r ≡ validConfig s m l ⌝ }
 {
@@ -71,10 +71,7 @@ pub fn valid_config(s: u8, m: u8, l: u8) -> bool
     if s > 6 {
         return false;
     }
-    if both > s {
-        return false;
-    }
-    power(s) + (17 - s) * power(both) <= 128
+    both <= s
 }
 
 // The symbol of a value of at most 131,071, and its extra bits.

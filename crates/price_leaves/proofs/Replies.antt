@@ -7,7 +7,7 @@ use lib.Dec.{leb, ltb}
 use lib.Ieee.{Float}
 use lib.ListN.{getD}
 use borrow.Author.Tests.{le-leb, lt-leb, lt-ltb, le-ltb}
-use Rattle.prices.specs.Book.{Book, at, clusterValid, clusterSymbol, clusterPrice, price}
+use Rattle.prices.specs.Book.{Book, at, symbolAt, clusterValid, clusterSymbol, clusterPrice, price}
 use Rattle.prices.specs.Checks.{symbolPrice, sameBits, check1, check2, firstTwo}
 use Rattle.price_leaves.specs.Leaf.{clusterPasses, entriesPass, inDomain, entryReply, tokenReply, pairReply, pick}
 use Rattle.price_leaves.specs.declared.Price.the-variants.{Bits, Refused}
@@ -27,7 +27,7 @@ module _ (b : Book) (context v : ℕ) where
   unfolding entryReply entriesPass clusterPasses
   no-config e = simp (e, and-false)
 
-  pub no-symbol : symbolPrice (at (b .symbols) (128 * cluster + clusterSymbol (b .configs) cluster v)) ≡ false → Refused 17 ≡ entryReply b context v
+  pub no-symbol : symbolPrice (symbolAt (b .symbols) cluster (clusterSymbol (b .configs) cluster v)) ≡ false → Refused 17 ≡ entryReply b context v
   unfolding entryReply entriesPass clusterPasses
   no-symbol e = simp (e, and-false)
 
@@ -35,7 +35,7 @@ module _ (b : Book) (context v : ℕ) where
   unfolding entryReply entriesPass clusterPasses
   no-ready h e = simp (lt-leb 256 v h, e, and-false)
 
-  module _ (hk : cluster < b .clusters) (valid : clusterValid (b .configs) cluster ≡ true) (symbol : symbolPrice (at (b .symbols) (128 * cluster + clusterSymbol (b .configs) cluster v)) ≡ true) where
+  module _ (hk : cluster < b .clusters) (valid : clusterValid (b .configs) cluster ≡ true) (symbol : symbolPrice (symbolAt (b .symbols) cluster (clusterSymbol (b .configs) cluster v)) ≡ true) where
     pub large : 256 ≤ v → Bits (price b context v) ≡ entryReply b context v
     unfolding entryReply entriesPass clusterPasses
     large h = simp (lt-ltb cluster (b .clusters) hk, valid, symbol, le-leb 256 v h)

@@ -3,19 +3,20 @@ use Prim.Native.Nat.{ℕ, _+_, _*_}
 use mathlib.Core.Bool.{Bool, true, false, _&&_, _||_}
 use lib.Dec.{leb, ltb}
 use lib.ListN.{getD}
-use Rattle.prices.specs.Book.{Book, at, clusterValid, clusterSymbol, clusterPrice, price}
+use Rattle.prices.specs.Book.{Book, at, symbolAt, clusterValid, clusterSymbol, clusterPrice, price}
 use Rattle.prices.specs.Checks.{symbolPrice, sameBits, check1, check2}
 use Rattle.price_leaves.specs.declared.Price.{Price}
 use Rattle.price_leaves.specs.declared.Price.the-variants.{Bits, Refused}
 use Rattle.price_leaves.specs.declared.PricePair.{PricePair}
 use Rattle.price_leaves.specs.declared.PricePair.the-variants as Pair
 
--- The entries that value v in cluster k reads pass 3 to 6: the cluster is one, its configuration is valid, the symbol's price is one, and so is the ready price of a value below 256.
+-- The entries that value v in cluster k reads pass 3 to 6: the cluster is one, its configuration is valid, the symbol's price is one (+infinity above 127, where none is read), and so is the
+-- ready price of a value below 256.
 unfoldable pub clusterPasses : Book → ℕ → ℕ → Bool
 clusterPasses b k v =
     ltb k (b .clusters)
     && clusterValid (b .configs) k
-    && symbolPrice (at (b .symbols) (128 * k + clusterSymbol (b .configs) k v))
+    && symbolPrice (symbolAt (b .symbols) k (clusterSymbol (b .configs) k v))
     && (leb 256 v || sameBits (at (b .ready) (256 * k + v)) (clusterPrice (b .configs) (b .symbols) k v))
 
 -- the entries for value v in a context

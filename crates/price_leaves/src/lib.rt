@@ -41,8 +41,8 @@ fn entry_price(
     let at = 3 * cluster;
     if packing::valid_config(configs[at], configs[at + 1], configs[at + 2]) {
         let split = prices::cluster_split(configs, cluster, value);
-        let symbol = 128 * cluster + split.symbol as usize;
-        if book_checks::unpriced(symbols[symbol]) != 0 {
+        let word = prices::symbol_at(symbols, cluster, split.symbol);
+        if book_checks::unpriced(word) != 0 {
             return Price::Refused(OUTSIDE);
         }
         let price = prices::cluster_price(configs, symbols, cluster, value);

@@ -13,14 +13,14 @@ use lib.Ieee.{Float, nan, inf, fin, add, sum, round, ofInt, inFloat, le, lt, eq,
 use lib.Ieee.Fits.{up-pos, ofInt-fits}
 use lib.Ieee.Order.{round-mono}
 use lib.Ieee.Scale.{finite}
-use borrow.Author.Tests.{lt-ltb, le-ltb, ne-eqb}
+use borrow.Author.Tests.{ltb-true, lt-ltb, le-ltb, ne-eqb}
 use Rattle.costs.specs.Cost.{cost, bounded, capped}
 use Rattle.costs.proofs.View.{Cost, at-inf, at-fin, view}
 use Rattle.costs.proofs.Order.{le→cross, lt-le-trans}
 use Rattle.costs.proofs.Sum.{round-cost, inf-add, add-cost, add-comm-cost, le-add}
 use Rattle.costs.proofs.Bound.{round-bounded, bounded-capped, capped-cost, add-capped, add-finite, bounded-finite}
-use Rattle.packing.proofs.Hybrid.{symbol-fits, extra-bits-few}
-use Rattle.prices.specs.Book.{Book, at, clusterValid, clusterSymbol, clusterExtra, clusterPrice, price}
+use Rattle.packing.proofs.Hybrid.{extra-bits-few}
+use Rattle.prices.specs.Book.{Book, at, symbolAt, clusterSymbol, clusterExtra, clusterPrice, price}
 use Rattle.prices.specs.Checks.{symbolPrice, bookRefusal}
 use Rattle.prices.proofs.Each.{both}
 use Rattle.prices.proofs.Passed.{Sound, sound, five}
@@ -159,16 +159,26 @@ module _ (n : ℕ) (some : 0 < n) where
       (cost-above (fin false 0 (z .0)) tt)))
       (of-symbol x h)
 
-pub symbol-within : (configs : List ℕ) (k v : ℕ) → clusterValid configs k ≡ true → v ≤ 131071 → clusterSymbol configs k v < 128
-unfolding clusterValid clusterSymbol
-symbol-within configs k v ok h = symbol-fits _ _ _ v ok h
+-- the price of a symbol is a symbol price, where those of the 128 are
+pub symbol-priced : (symbols : List Float) (k t : ℕ) → ((i : ℕ) → i < 128 → symbolPrice (at symbols (128 * k + i)) ≡ true) → symbolPrice (symbolAt symbols k t) ≡ true
+unfolding symbolAt symbolPrice le lt eq
+symbol-priced symbols k t all = go (ltb t 128) refl
+  where
+    go : (b : Bool) → ltb t 128 ≡ b → symbolPrice (cond b (at symbols (128 * k + t)) (inf false)) ≡ true
+    go true e = all t (ltb-true t 128 e)
+    go false e = refl
+
+-- a value whose symbol is above 127 costs +infinity, whatever its extra bits
+pub no-word : (configs : List ℕ) (symbols : List Float) (k v : ℕ) → 127 < clusterSymbol configs k v → clusterPrice configs symbols k v ≡ inf false
+unfolding clusterPrice symbolAt
+no-word configs symbols k v h = rw (le-ltb (clusterSymbol configs k v) 128 h) (inf-add binary32 _ (extra-cost _))
 
 pub extra-few : (configs : List ℕ) (k v : ℕ) → v ≤ 131071 → clusterExtra configs k v ≤ 16
 unfolding clusterExtra
 extra-few configs k v h = extra-bits-few _ _ _ v h
 
 -- the price of value v in cluster k, where the price of its symbol passes check 5
-module _ (configs : List ℕ) (symbols : List Float) (k v : ℕ) (hv : v ≤ 131071) (ok : symbolPrice (at symbols (128 * k + clusterSymbol configs k v)) ≡ true) where
+module _ (configs : List ℕ) (symbols : List Float) (k v : ℕ) (hv : v ≤ 131071) (ok : symbolPrice (symbolAt symbols k (clusterSymbol configs k v)) ≡ true) where
   pub cluster-capped : T (capped binary32 1041 149 (clusterPrice configs symbols k v))
   unfolding clusterPrice
   cluster-capped = sum-capped _ (le-trans (extra-few configs k v hv) (lit≤ {m = 16} {n = 17} tt)) _ ok
@@ -176,20 +186,20 @@ module _ (configs : List ℕ) (symbols : List Float) (k v : ℕ) (hv : v ≤ 131
   pub cluster-cost : T (cost (clusterPrice configs symbols k v))
   cluster-cost = capped-cost binary32 1041 149 _ cluster-capped
 
-  pub cluster-finite : T (finite (at symbols (128 * k + clusterSymbol configs k v))) → T (finite (clusterPrice configs symbols k v))
+  pub cluster-finite : T (finite (symbolAt symbols k (clusterSymbol configs k v))) → T (finite (clusterPrice configs symbols k v))
   unfolding clusterPrice
   cluster-finite = sum-finite _ (le-trans (extra-few configs k v hv) (lit≤ {m = 16} {n = 17} tt)) _ ok
 
 -- the symbol of value v in cluster k of a book that passes checks 1 to 5
-pub symbol-passes : (b : Book) → Sound b → (k v : ℕ) → k < b .clusters → v ≤ 131071 → symbolPrice (at (b .symbols) (128 * k + clusterSymbol (b .configs) k v)) ≡ true
-symbol-passes b p k v hk hv = p .priced _ (omega (arith, symbol-within (b .configs) k v (p .valid k hk) hv))
+pub symbol-passes : (b : Book) → Sound b → (k v : ℕ) → k < b .clusters → v ≤ 131071 → symbolPrice (symbolAt (b .symbols) k (clusterSymbol (b .configs) k v)) ≡ true
+symbol-passes b p k v hk hv = symbol-priced (b .symbols) k (clusterSymbol (b .configs) k v) (λ i h. p .priced _ (omega arith))
 
 pub sound-cost : (b : Book) → Sound b → (k v : ℕ) → k < b .clusters → v ≤ 131071 → T (cost (clusterPrice (b .configs) (b .symbols) k v))
 sound-cost b p k v hk hv = cluster-cost (b .configs) (b .symbols) k v hv (symbol-passes b p k v hk hv)
 
 -- the price of the symbol of value v in a context
 unfoldable pub symbolPriceOf : Book → ℕ → ℕ → Float
-symbolPriceOf b context v = at (b .symbols) (128 * getD (b .map) context 0 + clusterSymbol (b .configs) (getD (b .map) context 0) v)
+symbolPriceOf b context v = symbolAt (b .symbols) (getD (b .map) context 0) (clusterSymbol (b .configs) (getD (b .map) context 0) v)
 
 module _ (b : Book) (ok : bookRefusal b ≡ 0) (context v : ℕ) (hc : context < 14850) (hv : v ≤ 131071) where
   context-symbol : symbolPrice (symbolPriceOf b context v) ≡ true

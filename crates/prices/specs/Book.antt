@@ -1,10 +1,11 @@
 -- The price book, and the price of a value in a context (document 01, module 4).
 use Prim.Native.Nat.{ℕ, _+_, _*_}
 use mathlib.Core.List.{List}
-use mathlib.Core.Bool.{Bool}
+use mathlib.Core.Bool.{Bool, false, cond}
+use lib.Dec.{ltb}
 use lib.IntN.{pos}
 use lib.ListN.{getD}
-use lib.Ieee.{Float, nan, add, ofInt, binary32}
+use lib.Ieee.{Float, nan, inf, add, ofInt, binary32}
 use Rattle.packing.specs.Hybrid.{symbolOf, extraBitsOf, validConfig}
 
 -- What a caller lends: the number of clusters, the cluster of each context, three bytes of configuration, 128 symbol prices and 256 ready prices a cluster. Any of them may be anything.
@@ -32,9 +33,13 @@ clusterSymbol configs k v = symbolOf (getD configs (3 * k) 0) (getD configs (3 *
 unfoldable pub clusterExtra : List ℕ → ℕ → ℕ → ℕ
 clusterExtra configs k v = extraBitsOf (getD configs (3 * k) 0) (getD configs (3 * k + 1) 0) (getD configs (3 * k + 2) 0) v
 
--- The price of value v in cluster k: its symbol's price plus its extra bits, rounded once.
+-- The price of symbol t of cluster k. Above 127 there is no word for it: +infinity.
+unfoldable pub symbolAt : List Float → ℕ → ℕ → Float
+symbolAt symbols k t = cond (ltb t 128) (at symbols (128 * k + t)) (inf false)
+
+-- The price of value v in cluster k: its symbol's price plus its extra bits, rounded once. (+infinity plus extra bits is +infinity.)
 unfoldable pub clusterPrice : List ℕ → List Float → ℕ → ℕ → Float
-clusterPrice configs symbols k v = add binary32 (at symbols (128 * k + clusterSymbol configs k v)) (ofInt binary32 (pos (clusterExtra configs k v)))
+clusterPrice configs symbols k v = add binary32 (symbolAt symbols k (clusterSymbol configs k v)) (ofInt binary32 (pos (clusterExtra configs k v)))
 
 -- The price of value v in a context. (Ready prices are a way to compute it.)
 unfoldable pub price : Book → ℕ → ℕ → Float

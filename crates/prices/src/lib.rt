@@ -6,7 +6,7 @@ ghost use mathlib.Core.Path.{_≡_};
 ghost use mathlib.Core.Bool.{true};
 ghost use Prim.Native.Nat.{_≤_, _<_, _+_, _*_};
 ghost use lib.ListN.{length, getD};
-ghost use Rattle.prices.specs.Book.{bookOf, price, clusterPrice, clusterValid, clusterSymbol, clusterExtra};
+ghost use Rattle.prices.specs.Book.{bookOf, price, symbolAt, clusterPrice, clusterValid, clusterSymbol, clusterExtra};
 ghost use Rattle.prices.specs.Checks.{bookRefusal};
 
 // The prices of a value in two contexts.
@@ -41,6 +41,17 @@ pub fn cluster_split(configs: &[u8], cluster: usize, value: u32) -> Split
     uint_encode_with_config(value, config_of(configs, cluster))
 }
 
+// The price of a symbol in a cluster. Above 127 there is no word.
+pub fn symbol_at(symbols: &[f32], cluster: usize, symbol: u32) -> f32
+    requires { ⌜ 128 * cluster + 127 < length (now symbols) ⌝ }
+    ensures { λ r. ⌜ r ≡ symbolAt (now (symbols .entry)) cluster symbol ⌝ }
+{
+    if symbol > 127 {
+        return costs::infinity();
+    }
+    symbols[128 * cluster + symbol as usize]
+}
+
 // The price of a value in a cluster, by its split.
 pub fn cluster_price(configs: &[u8], symbols: &[f32], cluster: usize, value: u32) -> f32
     requires { ⌜ 3 * cluster + 2 < length (now configs) ⌝ }
@@ -50,8 +61,7 @@ pub fn cluster_price(configs: &[u8], symbols: &[f32], cluster: usize, value: u32
     ensures { λ r. ⌜ r ≡ clusterPrice (now (configs .entry)) (now (symbols .entry)) cluster value ⌝ }
 {
     let split = cluster_split(configs, cluster, value);
-    let at = 128 * cluster + split.symbol as usize;
-    symbols[at] + split.extra_bits as f32
+    symbol_at(symbols, cluster, split.symbol) + split.extra_bits as f32
 }
 
 // The price of a value in a context. Values below 256 are kept ready.

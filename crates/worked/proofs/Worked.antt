@@ -17,7 +17,7 @@ use Rattle.least_cost.specs.Choice.{remaining, inBand, costOf}
 use Rattle.least_cost.specs.Search.{countOf, wholeCost, least, holder, nonzeros, hasZero, trial, step, best, pick, walk, total, upFrom, leastTotal, leastCount, leastLevels}
 use Rattle.packing.specs.Hybrid.{topBit, symbolOf, extraBitsOf}
 use Rattle.packing.specs.Signed.{packSigned}
-use Rattle.prices.specs.Book.{clusterSymbol, clusterExtra, clusterPrice, price}
+use Rattle.prices.specs.Book.{symbolAt, clusterSymbol, clusterExtra, clusterPrice, price}
 use Rattle.scan.specs.Scan.{levelAt}
 use Rattle.weights.specs.Settings.{channelScale, weightAt}
 use Rattle.weights.specs.Weights.{clamp, chromaWeight, distortionWeight}
@@ -35,7 +35,7 @@ unfolding rows computed answerOf leastTotal problemOf positionsFrom positionAt
     inputAfter pastWindow tailOf fewestCount mostCount
     without dropRepeats abs settled keptOf restoredOf candidatesOf nearestOf
     nz within allowed least holder nonzeros hasZero trial step best pick walk total upFrom leastCount leastLevels
-    topBit symbolOf extraBitsOf packSigned clusterSymbol clusterExtra clusterPrice price levelAt channelScale weightAt clamp chromaWeight distortionWeight
+    topBit symbolOf extraBitsOf packSigned clusterSymbol clusterExtra symbolAt clusterPrice price levelAt channelScale weightAt clamp chromaWeight distortionWeight
     flat apart blockWith zeros countHeld zeroFirst bestZero walkZero answerZero chargedCost chargedFrom alwaysCharged prevZero
     allZero ones threeOnes outside inside long rounded fallsBySeven fallsBySix halves nonzeroStays zeroStays threeTokens lone prevOne prevNone
 worked = refl
@@ -51,7 +51,7 @@ unfolding costRows computedCost leftOut four three foursBack threesBack foursOn 
     inputAfter pastWindow tailOf fewestCount mostCount
     without dropRepeats abs settled keptOf restoredOf candidatesOf nearestOf
     nz within allowed least holder nonzeros hasZero trial step best pick walk total upFrom leastCount leastLevels
-    topBit symbolOf extraBitsOf packSigned clusterSymbol clusterExtra clusterPrice price levelAt channelScale weightAt clamp chromaWeight distortionWeight
+    topBit symbolOf extraBitsOf packSigned clusterSymbol clusterExtra symbolAt clusterPrice price levelAt channelScale weightAt clamp chromaWeight distortionWeight
     flat blockWith ones threeOnes long
 worked-costs = refl
 

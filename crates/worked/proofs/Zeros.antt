@@ -23,7 +23,7 @@ use Rattle.least_cost.specs.Position.{nz, within, allowed}
 use Rattle.least_cost.specs.Search.{Problem, countOf, wholeCost, least, holder, nonzeros, hasZero, trial, step, best, pick, walk, total, upFrom, leastTotal, leastCount, leastLevels, Banded}
 use Rattle.packing.specs.Hybrid.{topBit, symbolOf, extraBitsOf, validConfig}
 use Rattle.packing.specs.Signed.{packSigned}
-use Rattle.prices.specs.Book.{Book, clusterSymbol, clusterExtra, clusterPrice, price, clusterValid}
+use Rattle.prices.specs.Book.{Book, symbolAt, clusterSymbol, clusterExtra, clusterPrice, price, clusterValid}
 use Rattle.scan.specs.Scan as Scan
 use Rattle.scan.specs.Scan.{onceBelow, eachOnce, levelAt}
 use Rattle.weights.specs.Settings.{isDistance, validSettings, channelScale, weightAt}
@@ -62,11 +62,11 @@ unfolding check1 checked
 first-check x = ap (λ (n : ℕ). eqb n 14850 && leb 1 1 && leb 1 256) (length-replicate {A = ℕ} 14850 0)
 
 pub priced-one : bookRefusal (checked (whole 1)) ≡ 0
-unfolding checked check2 check3 check4 check5 check6 each allPriced symbolPrice rowKept sameBits clusterValid validConfig upFrom clusterPrice clusterSymbol clusterExtra symbolOf extraBitsOf topBit size ofInt add le lt eq toBits
+unfolding checked check2 check3 check4 check5 check6 each allPriced symbolPrice rowKept sameBits clusterValid validConfig upFrom symbolAt clusterPrice clusterSymbol clusterExtra symbolOf extraBitsOf topBit size ofInt add le lt eq toBits
 priced-one = passes (checked (whole 1)) (first-check (whole 1)) refl (one-cluster 14850) refl refl refl
 
 pub priced-never : bookRefusal (checked never) ≡ 0
-unfolding checked check2 check3 check4 check5 check6 each allPriced symbolPrice rowKept sameBits clusterValid validConfig upFrom clusterPrice clusterSymbol clusterExtra symbolOf extraBitsOf topBit size ofInt add le lt eq toBits
+unfolding checked check2 check3 check4 check5 check6 each allPriced symbolPrice rowKept sameBits clusterValid validConfig upFrom symbolAt clusterPrice clusterSymbol clusterExtra symbolOf extraBitsOf topBit size ofInt add le lt eq toBits
 priced-never = passes (checked never) (first-check never) refl (one-cluster 14850) refl refl refl
 
 -- ---- the block passes its checks
@@ -102,7 +102,7 @@ none-past = refl
 
 -- the token of each of these counts costs lambda
 count-cost : (n : ℕ) → n < 8 → problem .countCost n ≡ whole 3
-unfolding problemOf countCost price clusterPrice clusterSymbol clusterExtra symbolOf extraBitsOf topBit size contextOf fineBlockContext blockContext channelRow blockContextMap strategyOrder fineNonZeroContext nonZeroBucket checked zeros blockWith upFrom add mul ofInt
+unfolding problemOf countCost price symbolAt clusterPrice clusterSymbol clusterExtra symbolOf extraBitsOf topBit size contextOf fineBlockContext blockContext channelRow blockContextMap strategyOrder fineNonZeroContext nonZeroBucket checked zeros blockWith upFrom add mul ofInt
 count-cost zero h = refl
 count-cost (suc zero) h = refl
 count-cost (suc (suc zero)) h = refl
@@ -131,7 +131,7 @@ unfolding wholeCost costOf countOf remaining inputFrom problemOf positionsFrom p
     inputAfter pastWindow tailOf fewestCount mostCount
     without dropRepeats abs settled keptOf restoredOf candidatesOf nearestOf
     nz within allowed least holder nonzeros hasZero trial step best pick walk total upFrom leastCount leastLevels
-    topBit symbolOf extraBitsOf packSigned clusterSymbol clusterExtra clusterPrice price levelAt channelScale weightAt clamp chromaWeight distortionWeight
+    topBit symbolOf extraBitsOf packSigned clusterSymbol clusterExtra symbolAt clusterPrice price levelAt channelScale weightAt clamp chromaWeight distortionWeight
     checked zeros blockWith
 input-cost = refl
 
@@ -220,7 +220,7 @@ never-sound : Sound (problemAt never)
 never-sound = sound (checked never) priced-never (windowOf (covered zeros)) zeros zeros-passed halfWidth
 
 count-infinite : (n : ℕ) → n < 8 → problemAt never .countCost n ≡ never
-unfolding problemOf countCost price clusterPrice clusterSymbol clusterExtra symbolOf extraBitsOf topBit size contextOf fineBlockContext blockContext channelRow blockContextMap strategyOrder fineNonZeroContext nonZeroBucket checked zeros blockWith upFrom add mul ofInt
+unfolding problemOf countCost price symbolAt clusterPrice clusterSymbol clusterExtra symbolOf extraBitsOf topBit size contextOf fineBlockContext blockContext channelRow blockContextMap strategyOrder fineNonZeroContext nonZeroBucket checked zeros blockWith upFrom add mul ofInt
 count-infinite zero h = refl
 count-infinite (suc zero) h = refl
 count-infinite (suc (suc zero)) h = refl

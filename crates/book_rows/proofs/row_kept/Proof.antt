@@ -6,32 +6,32 @@ use native.Mathlib.Omega.{arith}
 use native.Mathlib.Nat.{le-of-eq}
 use lib.ListN.{getD}
 use lib.IntN.{pos}
-use lib.Ieee.{fin, ofBits}
+use lib.Ieee.{fin, lt, ofBits}
 use lib.Pow.{pow-mono}
 use Rattle.packing.proofs.Hybrid.{Valid}
 use Rattle.prices.specs.Book.{at}
 use Rattle.prices.specs.Checks.{each, symbolPrice, rowKept}
 use Rattle.prices.proofs.Each.{each-cut}
 use Rattle.prices.proofs.Costs.{zero-sum-cost}
-use Rattle.book_rows.specs.Row.{lineKept, octaveKept}
-use Rattle.book_rows.proofs.Octave.{keptAt, base, config-is, head-all, octave-step, octave-room, first-base, next-base}
+use Rattle.book_rows.specs.Row.{above, lineKept, octaveKept, pricedOctaves}
+use Rattle.book_rows.proofs.Octave.{keptAt, base, config-is, head-all, octave-step, last-octave, octave-room, octaves-most, octaves-least, octaves-few, first-base, next-base}
 use borrow.Author.Needs.{needs}
 use borrow.Author.Tests.{not-true, not-false}
 use Rattle.book_rows.proofs.row_kept.Statement.{statement}
 use Rattle.book_rows.proofs.row_kept.Tie as tie
 
 abbrev Inv-loop : tie.InvT-loop
-Inv-loop configs symbols ready cluster m l n₀ small from₀ n from =
+Inv-loop configs symbols ready cluster m l n₀ small from₀ end n from =
     (getD configs (3 * cluster) 0 ≤ n)
-    × (n ≤ 8)
+    × (n ≤ end)
     × (from ≡ 128 * cluster + base (getD configs (3 * cluster) 0) m l n)
     × (each (2 ^ n) (keptAt configs symbols ready cluster) ≡ true)
 
 abbrev μ-loop : tie.MeasureT-loop
-μ-loop configs symbols ready cluster m l n₀ small from₀ n from = 8 - n
+μ-loop configs symbols ready cluster m l n₀ small from₀ end n from = end - n
 
 abbrev first : tie.At-loop Inv-loop μ-loop → tie.After-config-of Inv-loop μ-loop
-first c = c .before .before .before .before
+first c = c .before .before .before .before .before
 
 -- the configuration (s, m, l)
 abbrev start : tie.After-config-of Inv-loop μ-loop → tie.Start Inv-loop μ-loop
@@ -65,14 +65,21 @@ head-told c =
     let a = start f .args in
     c .line-kept .ensures
     ∙ ap (λ (n : ℕ). each n (lineKept (a .symbols .now) (a .ready .now) (128 * a .cluster) (256 * a .cluster) (fin false 0 (pos 0)))) (headed (c .before))
-    ∙ head-all (a .configs .now) (a .symbols .now) (a .ready .now) (a .cluster) (s-of f) (m-of f) (l-of f) refl (sym (f .config-of .ensures .1 .0)) (sym (f .config-of .ensures .1 .1))
+    ∙ head-all (a .configs .now) (a .symbols .now) (a .ready .now) (a .cluster) (s-of f) (m-of f) (l-of f) refl (sym (f .config-of .ensures .1 .0)) (sym (f .config-of .ensures .1 .1)) (pow-mono {j = 7} (omega (arith, sizes f)))
+
+-- as many octaves as have symbols
+ends : (c : tie.At-loop Inv-loop μ-loop) → let f = first c in c .before .priced-octaves .result ≡ pricedOctaves (m-of f + l-of f)
+ends c = c .before .priced-octaves .ensures
+
+below-8 : (c : tie.At-loop Inv-loop μ-loop) → c .before .priced-octaves .result ≤ 8
+below-8 c = let f = first c in rw (ends c) (octaves-most (m-of f + l-of f))
 
 -- the values with top bit n
 whole : (c : tie.At-loop Inv-loop μ-loop) → let f = first c in c .loop .n ≡ m-of f + l-of f + (c .loop .n - m-of f - l-of f)
 whole c = omega (arith, sizes (first c), c .loop .inv .0)
 
 room : (c : tie.In-loop Inv-loop μ-loop) → let f = first (c .before) in base (s-of f) (m-of f) (l-of f) (c .before .loop .n) + 2 ^ (m-of f + l-of f) ≤ 128
-room c = let f = first (c .before) in octave-room (s-of f) (m-of f) (l-of f) (sizes f) (c .before .loop .n) (c .loop-test .taken) (c .before .loop .inv .0)
+room c = let f = first (c .before) in octave-room (s-of f) (m-of f) (l-of f) (sizes f) (c .before .loop .n) (omega (arith, below-8 (c .before))) (rw (ends (c .before)) at (c .loop-test .taken)) (c .before .loop .inv .0)
 
 stepped : (c : tie.After-octave-kept Inv-loop μ-loop) → each (2 ^ (c .before .before .before .loop .n + 1)) (kept (first (c .before .before .before))) ≡ c .octave-kept .result
 stepped c =
@@ -81,7 +88,7 @@ stepped c =
     let a = start f .args in
     let n = at-loop .loop .n in
     let inv = at-loop .loop .inv in
-    octave-step (a .configs .now) (a .symbols .now) (a .ready .now) (a .cluster) (s-of f) (m-of f) (l-of f) refl (sym (f .config-of .ensures .1 .0)) (sym (f .config-of .ensures .1 .1)) n (n - m-of f - l-of f) (at-loop .loop .from) (whole at-loop) (inv .0) (inv .2) (c .octave-kept .result)
+    octave-step (a .configs .now) (a .symbols .now) (a .ready .now) (a .cluster) (s-of f) (m-of f) (l-of f) refl (sym (f .config-of .ensures .1 .0)) (sym (f .config-of .ensures .1 .1)) n (n - m-of f - l-of f) (at-loop .loop .from) (whole at-loop) (inv .0) (inv .2) (room (c .before .before)) (c .octave-kept .result)
     (c .octave-kept .ensures ∙ ap (λ (x : ℕ). octaveKept (a .symbols .now) (a .ready .now) (at-loop .loop .from) (256 * a .cluster + x) (m-of f) (l-of f) (n - m-of f - l-of f)) (c .before .power2 .ensures))
     (inv .3)
 
@@ -127,21 +134,27 @@ mul-from c = search needs
 add-from : tie.Need-add-from Inv-loop μ-loop
 add-from c = search needs
 
+add-priced-octaves : tie.Need-add-priced-octaves Inv-loop μ-loop
+add-priced-octaves c = omega (arith, sizes (c .before .before .before))
+
+priced-octaves-requires : tie.Need-priced-octaves-requires Inv-loop μ-loop
+priced-octaves-requires c κs = search needs
+
 loop-holds : tie.Need-loop-holds Inv-loop μ-loop
 loop-holds c =
-    let f = c .before .before .before in
+    let f = c .before .before .before .before in
     let e = f .config-of .ensures .0 in (
       le-of-eq (sym e),
-      omega (arith, sizes f, e),
-      ap (λ (x : ℕ). 128 * start f .args .cluster + x) (headed (c .before .before) ∙ first-base (s-of f) (m-of f) (l-of f) ∙ ap (base (s-of f) (m-of f) (l-of f)) (sym e)),
-      ap (λ (n : ℕ). each (2 ^ n) (kept f)) e ∙ sym (head-told (c .before)) ∙ not-false _ (c .if1 .left),
+      omega (arith, sizes f, e, c .priced-octaves .ensures, octaves-least (m-of f + l-of f)),
+      ap (λ (x : ℕ). 128 * start f .args .cluster + x) (headed (c .before .before .before) ∙ first-base (s-of f) (m-of f) (l-of f) ∙ ap (base (s-of f) (m-of f) (l-of f)) (sym e)),
+      ap (λ (n : ℕ). each (2 ^ n) (kept f)) e ∙ sym (head-told (c .before .before)) ∙ not-false _ (c .before .if1 .left),
     )
 
 mul-to : tie.Need-mul-to Inv-loop μ-loop
 mul-to c = search needs
 
 power-requires-2 : tie.Need-power-requires-2 Inv-loop μ-loop
-power-requires-2 c κs = search needs
+power-requires-2 c κs = omega (arith, below-8 (c .before))
 
 cast-to : tie.Need-cast-to Inv-loop μ-loop
 cast-to c = search needs
@@ -162,9 +175,9 @@ octave-kept-requires c κs =
     let a = start f .args in
     let row = start f .pre in
     let n = loop .n in
-    let few : 2 ^ n ≤ 2 ^ 7 = pow-mono {j = 7} (omega arith) in
+    let few : 2 ^ n ≤ 2 ^ 7 = pow-mono {j = 7} (omega (arith, below-8 (c .before .before))) in
     let same : 2 ^ n ≡ 2 ^ (m-of f + l-of f + (n - m-of f - l-of f)) = ap (λ (k : ℕ). 2 ^ k) (whole (c .before .before)) in (
-      omega (arith, whole (c .before .before)),
+      omega (arith, whole (c .before .before), below-8 (c .before .before)),
       (
         omega (arith, room (c .before), loop .inv .2, row .priced),
         (
@@ -206,13 +219,48 @@ loop-again c =
 
 returns-2 : tie.Need-returns-2 Inv-loop μ-loop
 unfolding rowKept
-returns-2 c = sym (each-cut _ (2 ^ (c .before .before .before .before .loop .n + 1)) 256 (pow-mono {j = 8} (omega arith)) (stepped (c .before) ∙ c .if2 .left))
+returns-2 c =
+    let at-loop = c .before .before .before .before in
+    sym (each-cut _ (2 ^ (at-loop .loop .n + 1)) 256 (pow-mono {j = 8} (omega (arith, below-8 at-loop))) (stepped (c .before) ∙ c .if2 .left))
+
+-- where the loop ends
+all-below : (c : tie.After-loop Inv-loop μ-loop) (n : ℕ) → n ≡ c .before .before .priced-octaves .result → each (2 ^ n) (kept (first (c .before))) ≡ true
+all-below c n e =
+    let end : c .before .loop .n ≡ n = omega (arith, c .before .loop .inv .1) in
+    subst (λ (n : ℕ). each (2 ^ n) (kept (first (c .before))) ≡ true) end (c .before .loop .inv .3)
+
+infinity-requires : tie.Need-infinity-requires Inv-loop μ-loop
+infinity-requires c κs = search needs
+
+mul-turns-kept : tie.Need-mul-turns-kept Inv-loop μ-loop
+mul-turns-kept c = search needs
+
+add-turns-kept : tie.Need-add-turns-kept Inv-loop μ-loop
+add-turns-kept c = search needs
+
+turns-kept-requires : tie.Need-turns-kept-requires Inv-loop μ-loop
+unfolding above lt
+turns-kept-requires c κs =
+    let none = c .infinity .ensures in
+    let row = start (first (c .before .before .before)) .pre in
+    (omega (arith, row .kept), (rw none tt, rw none tt))
 
 returns-3 : tie.Need-returns-3 Inv-loop μ-loop
 unfolding rowKept
 returns-3 c =
-    let end : c .before .loop .n ≡ 8 = omega arith in
-    sym (subst (λ (n : ℕ). each (2 ^ n) (kept (first (c .before))) ≡ true) end (c .before .loop .inv .3))
+    let over = c .before .before .before in
+    let f = first (over .before) in
+    let a = start f .args in
+    let none = c .before .infinity .ensures in
+    let few = octaves-few (m-of f + l-of f) (rw (ends (over .before)) at (c .before .before .if3 .taken)) in
+    let six : s-of f ≡ 6 = omega (arith, sizes f, few .0) in
+    sym
+    (last-octave (a .configs .now) (a .symbols .now) (a .ready .now) (a .cluster) (s-of f) (m-of f) (l-of f) refl (sym (f .config-of .ensures .1 .0)) (sym (f .config-of .ensures .1 .1)) six (few .0)
+    (c .turns-kept .result) (rw none at (c .turns-kept .ensures)) (all-below over 7 (few .1 ∙ sym (ends (over .before)))))
+
+returns-4 : tie.Need-returns-4 Inv-loop μ-loop
+unfolding rowKept
+returns-4 c = sym (all-below (c .before) 8 (omega (arith, below-8 (c .before .before))))
 
 pub row-kept-spec : {M : Type 1} → statement M
 row-kept-spec =
@@ -229,6 +277,8 @@ row-kept-spec =
     returns
     mul-from
     add-from
+    add-priced-octaves
+    priced-octaves-requires
     loop-holds
     mul-to
     power-requires-2
@@ -245,4 +295,9 @@ row-kept-spec =
     loop-less
     loop-again
     returns-2
-    returns-3)
+    infinity-requires
+    mul-turns-kept
+    add-turns-kept
+    turns-kept-requires
+    returns-3
+    returns-4)

@@ -10,7 +10,7 @@ tell-real-requires : tie.Need-tell-real-requires
 tell-real-requires c κs = search needs
 
 returns : tie.Need-returns
-returns c = rw (c .before .before .token-bits .ensures) at (c .tell-real .ensures)
+returns c = rw (c .before .before .token-bits .ensures .reply) at (c .tell-real .ensures)
 
 pub rdoq-token-bits-spec : {M : Type 1} → statement M
 rdoq-token-bits-spec = tie.close (tie.spec token-bits-requires tell-real-requires returns)

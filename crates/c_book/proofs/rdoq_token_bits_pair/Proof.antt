@@ -10,7 +10,7 @@ tell-pair-requires : tie.Need-tell-pair-requires
 tell-pair-requires c κs = search needs
 
 returns : tie.Need-returns
-returns c = rw (c .before .before .before .token-bits-pair .ensures) at (c .tell-pair .ensures)
+returns c = rw (c .before .before .before .token-bits-pair .ensures .reply) at (c .tell-pair .ensures)
 
 pub rdoq-token-bits-pair-spec : {M : Type 1} → statement M
 rdoq-token-bits-pair-spec =

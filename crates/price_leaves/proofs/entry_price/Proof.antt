@@ -8,10 +8,10 @@ use lib.ListN.{length, getD}
 use lib.Ieee.{Float}
 use borrow.Author.Tests.{eq-eqb, ne-eqb}
 use borrow.Author.Needs.{needs}
-use Rattle.prices.specs.Book.{Book, bookOf, at, clusterValid, clusterSymbol, clusterPrice, price}
+use Rattle.prices.specs.Book.{Book, bookOf, at, symbolAt, clusterValid, clusterSymbol, clusterPrice, price}
 use Rattle.prices.specs.Checks.{symbolPrice, sameBits}
 use Rattle.prices.proofs.Passed.{parts1, parts2}
-use Rattle.prices.proofs.Costs.{symbol-within, cluster-cost}
+use Rattle.prices.proofs.Costs.{cluster-cost}
 use Rattle.price_leaves.specs.declared.Price.the-variants.{Bits}
 use Rattle.price_leaves.proofs.Replies.{no-cluster, no-config, no-symbol, no-ready, large, small}
 use Rattle.price_leaves.proofs.entry_price.Statement.{statement}
@@ -37,7 +37,7 @@ abbrev start2 : tie.Then2 → tie.Start
 start2 t = start1 (t .before .before .before .before .before)
 
 abbrev start3 : tie.Else3 → tie.Start
-start3 e = start2 (e .before .before .before .before .before)
+start3 e = start2 (e .before .before .before .before)
 
 within1 : (e : tie.Else1) → own (start1 e) < start1 e .args .clusters
 within1 e = e .if1 .left
@@ -49,19 +49,18 @@ valid2 : (t : tie.Then2) → clusterValid (start2 t .args .configs .now) (own (s
 unfolding clusterValid
 valid2 t = sym (t .before .valid-config .ensures) ∙ t .if2 .taken
 
-symbol-below : (s : tie.After-cluster-split) → s .cluster-split .result .symbol < 128
-symbol-below s =
-    let start = start2 (s .before) in
-    rw (s .cluster-split .ensures .0) (symbol-within (start .args .configs .now) (own start) (start .args .value) (valid2 (s .before)) (start .pre .1 .1 .1))
-
 -- the symbol's price, tested
-tested : (u : tie.After-unpriced) → symbolPrice (at (start2 (u .before .before .before .before) .args .symbols .now) (128 * own (start2 (u .before .before .before .before)) + clusterSymbol (start2 (u .before .before .before .before) .args .configs .now) (own (start2 (u .before .before .before .before))) (start2 (u .before .before .before .before) .args .value))) ≡ eqb (u .unpriced .result) 0
-tested u =
-    let start = start2 (u .before .before .before .before) in
-    subst (λ (i : ℕ). symbolPrice (at (start .args .symbols .now) (128 * own start + i)) ≡ eqb (u .unpriced .result) 0)
-    (u .before .before .before .cluster-split .ensures .0) (u .unpriced .ensures .0)
+abbrev word : tie.Start → Float
+word s = symbolAt (s .args .symbols .now) (own s) (clusterSymbol (s .args .configs .now) (own s) (s .args .value))
 
-symbol3 : (e : tie.Else3) → symbolPrice (at (start3 e .args .symbols .now) (128 * own (start3 e) + clusterSymbol (start3 e .args .configs .now) (own (start3 e)) (start3 e .args .value))) ≡ true
+tested : (u : tie.After-unpriced) → symbolPrice (word (start2 (u .before .before .before))) ≡ eqb (u .unpriced .result) 0
+tested u =
+    let start = start2 (u .before .before .before) in
+    subst (λ (x : Float). symbolPrice x ≡ eqb (u .unpriced .result) 0)
+    (u .before .symbol-at .ensures ∙ ap (symbolAt (start .args .symbols .now) (own start)) (u .before .before .cluster-split .ensures .0))
+    (u .unpriced .ensures .0)
+
+symbol3 : (e : tie.Else3) → symbolPrice (word (start3 e)) ≡ true
 symbol3 e = tested (e .before) ∙ eq-eqb _ 0 (e .if3 .left)
 
 -- the ready price, compared
@@ -108,22 +107,8 @@ valid-config-requires c κs = search needs
 cluster-split-requires : tie.Need-cluster-split-requires
 cluster-split-requires c κs = (omega (arith, within2 c, long2 (start2 c)), (valid2 c, start2 c .pre .1 .1 .1))
 
-mul-symbol : tie.Need-mul-symbol
-mul-symbol c = search needs
-
-cast-symbol : tie.Need-cast-symbol
-cast-symbol c = search needs
-
-add-symbol : tie.Need-add-symbol
-add-symbol c = search needs
-
-mul-unpriced : tie.Need-mul-unpriced
-mul-unpriced c = search needs
-
-shared-slice-read-unpriced : tie.Need-shared-slice-read-unpriced
-shared-slice-read-unpriced c =
-    let split = c .before .before in
-    omega (arith, within2 (split .before), long2 (start2 (split .before)), symbol-below split)
+symbol-at-requires : tie.Need-symbol-at-requires
+symbol-at-requires c κs = omega (arith, within2 (c .before), long2 (start2 (c .before)))
 
 unpriced-requires : tie.Need-unpriced-requires
 unpriced-requires c κs = search needs
@@ -133,7 +118,7 @@ returns-2 c = no-symbol _ _ _ (tested (c .before) ∙ ne-eqb _ 0 (c .if3 .taken)
 
 cluster-price-requires : tie.Need-cluster-price-requires
 cluster-price-requires c κs =
-    let t = c .before .before .before .before .before in
+    let t = c .before .before .before .before in
     let l = long2 (start2 t) in
     (omega (arith, within2 t, l), (omega (arith, within2 t, l), (valid2 t, start2 t .pre .1 .1 .1)))
 
@@ -141,7 +126,7 @@ returns-3 : tie.Need-returns-3
 unfolding price
 returns-3 c =
     let e = c .before .before in
-    let t = e .before .before .before .before .before in
+    let t = e .before .before .before .before in
     ap Bits (c .before .cluster-price .ensures) ∙ large (lent (start2 t)) _ _ (within2 t) (valid2 t) (symbol3 e) (c .if4 .taken)
 
 mul-differs : tie.Need-mul-differs
@@ -155,7 +140,7 @@ mul-differs-2 c = search needs
 
 shared-slice-read-differs : tie.Need-shared-slice-read-differs
 shared-slice-read-differs c =
-    let t = c .before .before .before .before .before .before .before .before in
+    let t = c .before .before .before .before .before .before .before in
     omega (arith, within2 t, long2 (start2 t), c .before .if4 .left)
 
 differs-requires : tie.Need-differs-requires
@@ -173,7 +158,7 @@ unfolding price
 returns-5 c =
     let e4 = c .before .before .before in
     let e = e4 .before .before in
-    let t = e .before .before .before .before .before in
+    let t = e .before .before .before .before in
     ap Bits (e4 .before .cluster-price .ensures)
     ∙ small (lent (start2 t)) _ _ (within2 t) (valid2 t) (symbol3 e) (e4 .if4 .left) (compared (c .before) ∙ eq-eqb _ 0 (c .if5 .left))
 
@@ -196,11 +181,7 @@ entry-price-spec =
     shared-slice-read-valid-config-3
     valid-config-requires
     cluster-split-requires
-    mul-symbol
-    cast-symbol
-    add-symbol
-    mul-unpriced
-    shared-slice-read-unpriced
+    symbol-at-requires
     unpriced-requires
     returns-2
     cluster-price-requires
