@@ -23,7 +23,7 @@ pub fn random_book(random: &mut Random) -> Book {
     match random.below(15) {
         0..=2 => prefix_book(random, &mut book, false),
         3 => prefix_book(random, &mut book, true),
-        10.. => crate::entropy::entropy_code::door::from_ans(&mut book, &ans_code(random, clusters)),
+        10.. => price_ans(&mut book, &ans_code(random, clusters)),
         kind => {
             let infinite = random.pick(&[0, 0, 0, 0, 300, 60, 12, 2]);
             for _ in 0..128 * clusters {
@@ -104,18 +104,8 @@ fn prefix_book(random: &mut Random, book: &mut Book, strict: bool) {
 }
 
 /// Prices that the Rust makes from prefix codes. Strict: a symbol without a word costs +infinity, where its cluster has a word.
-/// Under 6,m,6-m the Rust would index past 127 for the ready prices: it makes the symbol prices alone.
 pub fn price_prefix(book: &mut Book, codes: &[PrefixCode], strict: bool) {
-    let past = book.configs.chunks(3).any(|c| c[1] + c[2] == 6);
-    let configs = book.configs.clone();
-    if past {
-        book.configs = [4, 2, 0].repeat(codes.len());
-    }
-    crate::entropy::entropy_code::door::from_prefix(book, codes.to_vec());
-    book.configs = configs;
-    if past {
-        fill_ready(book);
-    }
+    by_the_rust(book, |book| crate::entropy::entropy_code::door::from_prefix(book, codes.to_vec()));
     if strict {
         for (row, code) in book.symbols.chunks_mut(128).zip(codes) {
             if code.depths == [0; 128] {
@@ -127,6 +117,25 @@ pub fn price_prefix(book: &mut Book, codes: &[PrefixCode], strict: bool) {
                 }
             }
         }
+        fill_ready(book);
+    }
+}
+
+/// Prices that the Rust makes from ANS frequencies.
+pub fn price_ans(book: &mut Book, freqs: &[u16]) {
+    by_the_rust(book, |book| crate::entropy::entropy_code::door::from_ans(book, freqs));
+}
+
+/// Under 6,m,6-m the Rust would index past 127 for the ready prices: it makes the symbol prices alone.
+fn by_the_rust(book: &mut Book, make: impl FnOnce(&mut Book)) {
+    let past = book.configs.chunks(3).any(|c| c[1] + c[2] == 6);
+    let configs = book.configs.clone();
+    if past {
+        book.configs = [4, 2, 0].repeat(configs.len() / 3);
+    }
+    make(book);
+    book.configs = configs;
+    if past {
         fill_ready(book);
     }
 }

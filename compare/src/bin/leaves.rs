@@ -276,7 +276,7 @@ fn ans_prices() -> Tally {
     let mut at = |freqs: &[u16], which: usize| {
         let clusters = freqs.len() / 128;
         let mut book = data::Book { clusters: clusters as u32, map: vec![0; 14850], configs: [4, 2, 0].repeat(clusters), ..data::Book::default() };
-        prices::from_ans(&mut book, freqs);
+        books::price_ans(&mut book, freqs);
         let mut ours = vec![f32::NAN; freqs.len()];
         let code = unsafe { rdoq_ans_symbol_bits(book.clusters, freqs.as_ptr(), freqs.len(), ours.as_mut_ptr(), ours.len()) };
         let bits = |prices: &[f32]| prices.iter().map(|price| price.to_bits()).collect::<Vec<_>>();
