@@ -1,7 +1,7 @@
 /*
  * The level search of a JPEG XL encoder, for one block.
  *
- * The functions are those of crates/c_leaves, c_book, c_search and c_store, whose contracts are proved. Build the library with
+ * The functions are those of crates/c_leaves, c_book, c_search, c_tally and c_store, whose contracts are proved. Build the library with
  *
  *     make library               writes target/staticlib/librdoq_c.a
  *
@@ -19,8 +19,8 @@
  *
  * Refusals. The first check that fails is answered. A search makes its checks in this order: `search` names one (17), 1 to 9, 18,
  * 10 to 14; then the trellis may find 15, the beam 16. The builder of a prefix code makes 1 and 2, that of an ANS code 1, 2 and 19,
- * rdoq_fill_ready 1 to 5. The leaf and price calls make 17 alone. The calls on a store make 37, 33, then 34 (put) or 35 (drop, read),
- * then 36 (read).
+ * rdoq_fill_ready 1 to 5. The leaf and price calls make 17 alone. A tally's calls make 1 to 4, 17, then 27 or 28. The calls on a store
+ * make 37, 33, then 34 (put) or 35 (drop, read), then 36 (read).
  *
  *    1  the map is not 14,850 bytes, or the clusters are not 1 to 256
  *         Lend a byte for each context; name 1 to 256 clusters.
@@ -63,6 +63,10 @@
  *         Pass the strategy and the sides of one block. Which side is the longer does not matter.
  *   19  a frequency of an ANS code is above 4,096
  *         Scale the frequencies so that 4,096 is the whole.
+ *   27  a count of a tally would pass 2^32 - 1, or its total of extra bits 2^64 - 1
+ *         Begin a new tally.
+ *   28  a count of a tally, or its total, would fall below 0
+ *         Take out only tokens that were added, under the same map and configurations.
  *   33  of a store: the block number is not below 1,024
  *         Number the blocks of a store from 0.
  *   34  of a store: the live tokens after the call would exceed the room (a run that is replaced is not counted)
@@ -172,9 +176,10 @@ uint32_t rdoq_token_bits_pair(uint32_t clusters, const uint8_t *map, size_t map_
  *   cost, count     written where the code is 0: the count of nonzero levels from scan position c on, and, by beam and trellis,
  *                   the cost of the levels that were written. Greedy leaves cost as it was.
  *
- * After refusals 1 to 14 and 17 nothing that was lent has changed. After 15, after 16 and after an answer of the trellis or the
- * beam every choice byte is 255 and every float of the rows +infinity. Greedy touches no room. The levels at scan positions below c
- * and past the window never change, and a refused block keeps every level.
+ * After refusals 1 to 14, 17 and 18 nothing that was lent has changed. (The proofs know one NaN: that a NaN keeps its bit pattern
+ * they do not say; the code stores nothing there.) After 15, after 16 and after an answer of the trellis or the beam every choice
+ * byte is 255 and every float of the rows +infinity. Greedy touches no room. The levels at scan positions below c and past the window
+ * never change, and a refused block keeps every level.
  */
 uint32_t rdoq_block(uint32_t search, uint32_t clusters, const uint8_t *map, size_t map_len, const uint8_t *configs,
                     size_t configs_len, const float *symbols, size_t symbols_len, const float *ready, size_t ready_len, uint32_t cx,
@@ -183,6 +188,18 @@ uint32_t rdoq_block(uint32_t search, uint32_t clusters, const uint8_t *map, size
                     size_t scan_len, const float *source, size_t source_len, const float *inv_qm, size_t inv_qm_len,
                     int32_t *levels, size_t levels_len, uint8_t *choices, size_t choices_len, float *row_a, size_t row_a_len,
                     float *row_b, size_t row_b_len, float *cost, uint32_t *count);
+
+/*
+ * A tally: counts, 128 a cluster, and the total of extra bits; all 0 to begin with. Adds the tokens given as contexts and values,
+ * or takes them out. A symbol above 127 counts as 127. Returns 0, or the first of 1, 2, 3, 4, 17 and 27 (add) or 28 (remove), and
+ * the tally stays what it was.
+ */
+uint32_t rdoq_tally_add(uint32_t clusters, const uint8_t *map, size_t map_len, const uint8_t *configs, size_t configs_len,
+                        const uint32_t *contexts, size_t contexts_len, const uint32_t *values, size_t values_len, uint32_t *counts,
+                        size_t counts_len, uint64_t *extra);
+uint32_t rdoq_tally_remove(uint32_t clusters, const uint8_t *map, size_t map_len, const uint8_t *configs, size_t configs_len,
+                           const uint32_t *contexts, size_t contexts_len, const uint32_t *values, size_t values_len,
+                           uint32_t *counts, size_t counts_len, uint64_t *extra);
 
 /* The leaves. Each returns 0, or 17 outside its domain. */
 

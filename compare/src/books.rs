@@ -1,6 +1,6 @@
 //! Price books by seed: a third from ANS codes, others from prefix codes, strict or not, and hand-made ones.
 
-use crate::checks::config_passes;
+use crate::checks::{config_passes, has_all_words};
 use crate::data::Book;
 use crate::entropy::prefix_code::PrefixCode;
 use crate::plain::cluster_price;
@@ -17,8 +17,10 @@ pub fn random_book(random: &mut Random) -> Book {
     };
     let mut book = Book { clusters: clusters as u32, ..Book::default() };
     book.map = map(random, clusters);
+    // Half of the books have a word for every value.
+    let any = random.once_in(2);
     for _ in 0..clusters {
-        book.configs.extend(config(random));
+        book.configs.extend(config(random, any));
     }
     match random.below(15) {
         0..=2 => prefix_book(random, &mut book, false),
@@ -60,15 +62,14 @@ fn map(random: &mut Random, clusters: usize) -> Vec<u8> {
     }
 }
 
-/// A configuration that passes check 4, of all 84.
-fn config(random: &mut Random) -> [u8; 3] {
-    if random.once_in(3) {
-        return random.pick(&[[4, 2, 0], [4, 2, 1], [6, 2, 0], [0, 0, 0], [5, 2, 2], [6, 3, 0], [6, 3, 3]]);
-    }
+/// A configuration that passes check 4: any of the 84, or one that has a word for every value.
+fn config(random: &mut Random, any: bool) -> [u8; 3] {
     loop {
-        let [s, m, l] = [0; 3].map(|_: u8| random.below(7) as u8);
-        if config_passes(s, m, l) {
-            return [s, m, l];
+        let drawn = [0; 3].map(|_: u8| random.below(7) as u8);
+        let known = random.pick(&[[4, 2, 0], [4, 2, 1], [6, 2, 0], [0, 0, 0], [5, 2, 2], [6, 3, 0], [6, 3, 3]]);
+        let config = if random.once_in(3) { known } else { drawn };
+        if config_passes(config) && (any || has_all_words(&config)) {
+            return config;
         }
     }
 }

@@ -23,7 +23,7 @@ pub fn book_refusal(book: &Book) -> u32 {
     if book.map.iter().any(|&cluster| cluster as usize >= clusters) {
         return 3;
     }
-    if !book.configs.chunks(3).all(|c| config_passes(c[0], c[1], c[2])) {
+    if !book.configs.chunks(3).all(|c| config_passes([c[0], c[1], c[2]])) {
         return 4;
     }
     // A comparison with NaN is false; -0.0 is not below 0.
@@ -42,15 +42,19 @@ pub fn book_refusal(book: &Book) -> u32 {
     0
 }
 
-pub fn config_passes(s: u8, m: u8, l: u8) -> bool {
-    let (s, sum) = (u32::from(s), u32::from(m) + u32::from(l));
-    s <= 6 && sum <= s
+pub fn config_passes([s, m, l]: [u8; 3]) -> bool {
+    s <= 6 && u32::from(m) + u32::from(l) <= u32::from(s)
 }
 
-/// Whether every value that a search may code has a symbol that has a price, under every configuration. Else the Rust may index past its 128 prices.
+/// Whether every value up to 131,071 has a symbol below 128, under a configuration that passes.
+pub fn has_all_words(config: &[u8]) -> bool {
+    let [s, m, l] = [0, 1, 2].map(|at| u32::from(config[at]));
+    2u32.pow(s) + (17 - s) * 2u32.pow(m + l) <= 128
+}
+
+/// Whether that holds of every configuration of a book that passes. Else the Rust may index past its 128 prices.
 pub fn all_words(book: &Book) -> bool {
-    let few = |c: &[u8]| 2u32.pow(c[0].into()) + (17 - u32::from(c[0])) * 2u32.pow(u32::from(c[1]) + u32::from(c[2])) <= 128;
-    book.configs.chunks(3).all(few)
+    book.configs.chunks(3).all(has_all_words)
 }
 
 /// Checks 7 to 14 and 18: 0, or the first that fails.

@@ -26,6 +26,11 @@ impl Book {
         Book { clusters, map, configs, symbols, ready }
     }
 
+    /// The code without its prices: the number of clusters, the map and the configurations.
+    pub(crate) fn code(&self) -> (u32, &[u8], &[u8]) {
+        (self.clusters, &self.map, &self.configs)
+    }
+
     /// Checks 1 to 6. A book from [`BookBuilder::fill`] passes.
     pub fn check(&self) -> Result<(), Refusal> {
         let (map, configs, symbols, ready) = (&self.map, &self.configs, &self.symbols, &self.ready);

@@ -61,4 +61,17 @@ extern "C" {
         ideal: c_float, current: i32, restore: bool, levels: *mut i32, levels_len: usize, count: *mut u32,
     ) -> u32;
     pub fn rdoq_window_len(covered_blocks: u32, length: *mut usize, restoring: *mut usize) -> u32;
+    pub fn rdoq_tally_add(
+        clusters: u32, map: *const u8, map_len: usize, configs: *const u8, configs_len: usize, contexts: *const u32,
+        contexts_len: usize, values: *const u32, values_len: usize, counts: *mut u32, counts_len: usize, extra: *mut u64,
+    ) -> u32;
+    pub fn rdoq_tally_remove(
+        clusters: u32, map: *const u8, map_len: usize, configs: *const u8, configs_len: usize, contexts: *const u32,
+        contexts_len: usize, values: *const u32, values_len: usize, counts: *mut u32, counts_len: usize, extra: *mut u64,
+    ) -> u32;
 }
+
+/// `rdoq_tally_add` and `rdoq_tally_remove`.
+pub type TallyCall = unsafe extern "C" fn(
+    u32, *const u8, usize, *const u8, usize, *const u32, usize, *const u32, usize, *mut u32, usize, *mut u64,
+) -> u32;

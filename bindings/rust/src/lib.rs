@@ -43,6 +43,7 @@ mod leaves;
 mod refusal;
 mod search;
 mod store;
+mod tally;
 
 pub use book::{Book, BookBuilder, Pricing, CONTEXTS, READY, SYMBOLS};
 pub use leaves::{
@@ -53,3 +54,4 @@ pub use leaves::{
 pub use refusal::Refusal;
 pub use search::{rdoq_block, Answer, Bias, Block, Room, Search, Settings, Shape};
 pub use store::{TokenStore, STORE_RECORD, STORE_RUNS};
+pub use tally::Tally;

@@ -53,6 +53,10 @@ pub enum Refusal {
     Sides = 18,
     /// A frequency of an ANS code is above 4,096.
     Frequency = 19,
+    /// A count of a tally, or its total of extra bits, would pass its type.
+    TallyFull = 27,
+    /// A count of a tally, or its total of extra bits, would fall below 0.
+    TallyEmpty = 28,
     /// A block number of a store is not below 1,024.
     BlockNumber = 33,
     /// The live tokens would exceed the store's room.
@@ -85,6 +89,8 @@ const ALL: &[Refusal] = &[
     Refusal::Domain,
     Refusal::Sides,
     Refusal::Frequency,
+    Refusal::TallyFull,
+    Refusal::TallyEmpty,
     Refusal::BlockNumber,
     Refusal::StoreFull,
     Refusal::NotHeld,
@@ -124,6 +130,8 @@ impl Refusal {
             Refusal::Domain => "an argument lies outside the call's domain: the call's documentation gives it",
             Refusal::Sides => "the product of the sides is not what the strategy covers (a 16x16 transform covers 2 by 2 units of 8 samples): pass the strategy and the sides of one block",
             Refusal::Frequency => "a frequency of an ANS code is above 4,096: scale the frequencies so that 4,096 is the whole",
+            Refusal::TallyFull => "a count would pass 2^32 - 1, or the total of extra bits 2^64 - 1: begin a new tally",
+            Refusal::TallyEmpty => "a count or the total of extra bits would fall below 0: take out only tokens that were added, under the same map and configurations",
             Refusal::BlockNumber => "the block number is not below 1,024: number the blocks of a store from 0",
             Refusal::StoreFull => "the live tokens would exceed the store's room: drop runs, or start a store with more room",
             Refusal::NotHeld => "no run is held under the block number: put one first",

@@ -20,7 +20,7 @@ fn config(split_exponent: u32, msb_in_token: u32, lsb_in_token: u32) -> Config {
 #[test]
 fn refusals_have_their_numbers() {
     let mut texts = HashSet::new();
-    for number in (1..=19).chain(33..=37) {
+    for number in (1..=19).chain(27..=28).chain(33..=37) {
         let refusal = Refusal::from_number(number).unwrap();
         assert_eq!(refusal.number(), number);
         let error: Box<dyn Error> = Box::new(refusal);

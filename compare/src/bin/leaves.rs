@@ -65,6 +65,14 @@ extern "C" {
         clusters: u32, map: *const u8, map_len: usize, configs: *const u8, configs_len: usize, symbols: *const f32, symbols_len: usize,
         ready: *const f32, ready_len: usize, context: u32, value: u32, first: *mut f32, second: *mut f32,
     ) -> u32;
+    fn rdoq_tally_add(
+        clusters: u32, map: *const u8, map_len: usize, configs: *const u8, configs_len: usize, contexts: *const u32, contexts_len: usize,
+        values: *const u32, values_len: usize, counts: *mut u32, counts_len: usize, extra: *mut u64,
+    ) -> u32;
+    fn rdoq_tally_remove(
+        clusters: u32, map: *const u8, map_len: usize, configs: *const u8, configs_len: usize, contexts: *const u32, contexts_len: usize,
+        values: *const u32, values_len: usize, counts: *mut u32, counts_len: usize, extra: *mut u64,
+    ) -> u32;
 }
 
 /// Calls made and differences met, of one leaf.
@@ -410,8 +418,47 @@ fn price_calls() -> [Tally; 2] {
     [tally, none]
 }
 
+/// Adds tokens to a tally, or takes them out.
+fn count(add: bool, book: &Book, contexts: &[u32], values: &[u32], counts: &mut [u32], extra: &mut u64) -> u32 {
+    let call = if add { rdoq_tally_add } else { rdoq_tally_remove };
+    unsafe {
+        call(
+            book.clusters, book.map.as_ptr(), book.map.len(), book.configs.as_ptr(), book.configs.len(), contexts.as_ptr(), contexts.len(),
+            values.as_ptr(), values.len(), counts.as_mut_ptr(), counts.len(), extra,
+        )
+    }
+}
+
+/// Streams added to an empty tally, beside the Rust's `AdaptiveRate`; then taken out again.
+fn tallies() -> Tally {
+    let mut tally = Tally::new("tally_add, tally_remove", "100,000 streams of up to 80 tokens, in 500 books; taken out again");
+    let mut random = Random::of(&[23]);
+    let mut books = 0;
+    while books < 500 {
+        let book = books::random_book(&mut random);
+        if checks::book_refusal(&book) != 0 {
+            continue;
+        }
+        let prices = prices::lent(&book);
+        for _ in 0..200 {
+            let most = random.pick(&[1usize, 40, 131_072]);
+            let tokens: Vec<(u32, u32)> = (0..random.below(81)).map(|_| (random.below(14850) as u32, random.below(most) as u32)).collect();
+            let (contexts, values): (Vec<u32>, Vec<u32>) = tokens.iter().copied().unzip();
+            let mut counts = vec![0; 128 * book.clusters as usize];
+            let mut extra = 0;
+            let code = count(true, &book, &contexts, &values, &mut counts, &mut extra);
+            let found = (code, (counts.clone(), extra));
+            tally.hold(found, (0, prices::uses(&prices, &tokens)), books);
+            let code = count(false, &book, &contexts, &values, &mut counts, &mut extra);
+            tally.hold((code, counts.iter().all(|&n| n == 0), extra), (0, true, 0), books);
+        }
+        books += 1;
+    }
+    tally
+}
+
 fn main() {
-    let parts = [packing, splitting, block_contexts, count_contexts, coefficient_contexts, levels, weights, candidates, prefix_prices, ans_prices, ready_prices];
+    let parts = [packing, splitting, block_contexts, count_contexts, coefficient_contexts, levels, weights, candidates, prefix_prices, ans_prices, ready_prices, tallies];
     let mut differences = 0;
     for tally in parts.into_iter().map(|part| part()).chain(std::iter::once_with(price_calls).flatten()) {
         println!("{:<62} {:>11} calls {:>4} differences   {}", tally.name, tally.calls, tally.differences, tally.domain);

@@ -1,6 +1,6 @@
 // Price books: handed over as they are, or made from a prefix code or an ANS code by the Rust.
 
-use super::{AnsHistogram, FrozenTokenPrices, HybridUintConfig, OwnedEntropyCode, PrefixCode, ALPHABET_SIZE};
+use super::{AnsHistogram, FrozenTokenPrices, HybridUintConfig, OwnedEntropyCode, PrefixCode, Token, TokenSlice, ALPHABET_SIZE};
 use crate::data::Book;
 
 fn configs(book: &Book) -> Vec<HybridUintConfig> {
@@ -53,4 +53,12 @@ pub(crate) fn token_bits(prices: &FrozenTokenPrices, context: u32, value: u32) -
 
 pub(crate) fn token_bits_pair(prices: &FrozenTokenPrices, context: u32, value: u32) -> [f32; 2] {
     prices.token_bits_pair(context, value)
+}
+
+/// The counts and the extra bits of a stream, as the Rust adds them to none.
+pub(crate) fn uses(prices: &FrozenTokenPrices, tokens: &[(u32, u32)]) -> (Vec<u32>, u64) {
+    let stream: Vec<Token> = tokens.iter().map(|&(context, value)| Token::new(context, value)).collect();
+    let mut rate = prices.adaptive_rate();
+    rate.add(TokenSlice(&stream));
+    (rate.counts, rate.extra)
 }

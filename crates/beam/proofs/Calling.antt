@@ -1,79 +1,91 @@
 -- The whole call: each way it ends is the defined outcome. Assumes nothing.
-use mathlib.Core.Path.{_≡_, refl, sym, ap, _∙_}
-use mathlib.Core.Bool.{Bool, true, false, not, cond}
+use mathlib.Core.Path.{_≡_, ap, _∙_, subst, subst⁻¹}
 use mathlib.Core.List.{List}
-use Prim.Native.Nat.{ℕ, _*_, _≤_}
-use native.Mathlib.Omega.{arith}
+use Prim.Native.Nat.{ℕ, _*_, _≤_, _<_}
 use borrow.Author.Tests.{eq-eqb, ne-eqb, leb-true}
 use lib.IntN.{ℤ}
 use lib.ListN.{length, replicate}
 use Rattle.block.specs.Block.{Block, covered}
-use Rattle.block.specs.Checks.{blockRefusal, beamRoom}
+use Rattle.block.specs.Checks.{searchRefusal, enoughRoom}
 use Rattle.block.specs.declared.Answer.{Answer}
 use Rattle.block.specs.declared.Answer.the-variants.{Refused}
-use Rattle.block_checks.proofs.Laws.{refused-book, refused-block, refused-room}
+use Rattle.block_checks.proofs.Laws.{passed}
+use Rattle.block_checks.specs.Passed.{Passed}
 use Rattle.prices.specs.Book.{Book}
 use Rattle.prices.specs.Checks.{bookRefusal}
+use Rattle.problem.proofs.Refusals.{searched}
+use Rattle.search_checks.proofs.Checked.{own-lists}
+use Rattle.search_checks.proofs.Refusing.{no-rows}
+use Rattle.search_checks.specs.Checked.{Checked, Searched}
 use Rattle.steps.specs.Plan.{Planned, Coded}
 use Rattle.steps.specs.declared.reading.Plan.{Plan}
-use Rattle.weights.specs.Window.{windowOf}
+use Rattle.weights.specs.Window.{windowFor}
 use Rattle.weights.specs.declared.Window.{Window}
-use Rattle.beam.specs.Beam.{windowLength, answered, written, refusal, outcomeOf, beamOutcome}
-use Rattle.beam.specs.Held.{Searched}
+use Rattle.weights.proofs.Lengths.{whole-window}
+use Rattle.beam.specs.Beam.{Outcome, answered, written, refusal, outcomeOf, beamOutcome}
+use Rattle.beam.specs.Demand.{PromisedIn, Promised}
+use Rattle.beam.proofs.Demand.{promised}
 
--- what check 14 lets pass
-pub room : (w c : ℕ) → beamRoom w c ≡ true → 6 * w ≤ c
-unfolding beamRoom
-room w c e = leb-true (6 * w) c e
+pub own-answer : {v : Window} {book : Book} (b : Block) {p : Plan} → Checked book b p → p .window ≡ v → {answer : Answer} {after : List ℤ}
+    → ((s : Searched book (b .scan) (b .source) (b .inverse) (b .levels) p) → (answer ≡ answered (p .window) book (s .block)) × (after ≡ written (p .window) book (s .block)))
+    → (answer ≡ answered v book b) × (after ≡ written v book b)
+own-answer {v} {book} b K e {answer} {after} f = rw e at (f (record { block = b; lists = own-lists b; checked = K }))
 
-pub room-is : {b : Block} {p : Plan} {r : Bool} (c : ℕ) → Planned b p → r ≡ beamRoom (p .window .length) c → r ≡ beamRoom (windowLength b) c
-room-is c w e = e ∙ ap (λ (v : Window). beamRoom (v .length) c) (w .window-is)
-
-pub untrue : (t : Bool) → not t ≡ true → t ≡ false
-untrue true e = sym e
-untrue false e = refl
-
-pub unfalse : (t : Bool) → not t ≡ false → t ≡ true
-unfalse true e = refl
-unfalse false e = sym e
-
--- the block of the call passed
-pub searched-of : {book : Book} (b : Block) {p : Plan} → bookRefusal book ≡ 0 → blockRefusal (windowOf (covered b)) b 0 ≡ 0 → Planned b p → Coded p → Searched book (b .scan) (b .source) (b .inverse) (b .levels) p
-searched-of b ok passes w k =
-    record {
-      block = b;
-      lists = record { scan-is = refl; source-is = refl; inverse-is = refl; levels-is = refl };
-      checked = record { book-passed = ok; block-passed = passes; planned = w; coded = k };
-    }
-
-pub own-answer : {book : Book} (b : Block) {p : Plan} (ok : bookRefusal book ≡ 0) (passes : blockRefusal (windowOf (covered b)) b 0 ≡ 0) (w : Planned b p) (k : Coded p) {answer : Answer} {after : List ℤ}
-    → ((s : Searched book (b .scan) (b .source) (b .inverse) (b .levels) p) → (answer ≡ answered book (s .block)) × (after ≡ written book (s .block))) → (answer ≡ answered book b) × (after ≡ written book b)
-unfolding searched-of
-own-answer b ok passes w k e = e (searched-of b ok passes w k)
-
-module _ (book : Book) (b : Block) (choices : List ℕ) where
-  refused-beam : {n : ℕ} → n ≡ refusal book b choices → (n ≡ 0 → ⊥) → outcomeOf (Refused n) (b .levels) choices ≡ beamOutcome book b choices
+module _ (v : Window) (book : Book) (b : Block) (choices : List ℕ) where
+  pub refused-beam : {n : ℕ} → n ≡ refusal v book b choices → (n ≡ 0 → ⊥) → outcomeOf (Refused n) (b .levels) choices ≡ beamOutcome v book b choices
   unfolding beamOutcome
   refused-beam e some = rw (ne-eqb _ 0 (λ z. some (e ∙ z))) (ap (λ (m : ℕ). outcomeOf (Refused m) (b .levels) choices) e)
 
-  pub by-book : {n : ℕ} → n ≡ bookRefusal book → (n ≡ 0 → ⊥) → outcomeOf (Refused n) (b .levels) choices ≡ beamOutcome book b choices
-  unfolding refusal
-  by-book e some = refused-beam (e ∙ sym (refused-book book b _ (λ z. some (e ∙ z)))) some
-
-  module _ (ok : bookRefusal book ≡ 0) where
-    pub by-block : {n : ℕ} → n ≡ blockRefusal (windowOf (covered b)) b 0 → (n ≡ 0 → ⊥) → outcomeOf (Refused n) (b .levels) choices ≡ beamOutcome book b choices
+  module _ (none : refusal v book b choices ≡ 0) where
+    -- what the checks let pass
+    pub accepted-book : bookRefusal book ≡ 0
     unfolding refusal
-    by-block e some = refused-beam (e ∙ sym (refused-block book b _ ok (λ z. some (e ∙ z)))) some
+    accepted-book = searched v book b _ none .0
 
-    module _ (passes : blockRefusal (windowOf (covered b)) b 0 ≡ 0) where
-      number-is : refusal book b choices ≡ cond (beamRoom (windowLength b) (length choices)) 0 14
-      unfolding refusal
-      number-is = refused-room book b _ ok passes
+    pub accepted-room : 6 * v .length ≤ length choices
+    unfolding refusal
+    accepted-room = leb-true (6 * v .length) (length choices) (searched v book b _ none .1 .1)
 
-      pub by-room : beamRoom (windowLength b) (length choices) ≡ false → outcomeOf (Refused 14) (b .levels) choices ≡ beamOutcome book b choices
-      by-room e = refused-beam (sym (number-is ∙ ap (λ (t : Bool). cond t 0 14) e)) (λ z. omega arith)
+    pub accepted-outcome : {answer : Answer} {after : List ℤ} {bytes : List ℕ} {m : ℕ}
+        → (answer ≡ answered v book b) × (after ≡ written v book b) → bytes ≡ replicate m 255 → m ≡ length choices → outcomeOf answer after bytes ≡ beamOutcome v book b choices
+    unfolding beamOutcome
+    accepted-outcome a c n = rw (eq-eqb _ 0 none) (rw (a .0, a .1, c, n))
 
-      pub accepted : beamRoom (windowLength b) (length choices) ≡ true → {answer : Answer} {after : List ℤ} {bytes : List ℕ} {m : ℕ}
-          → (answer ≡ answered book b) × (after ≡ written book b) → bytes ≡ replicate m 255 → m ≡ length choices → outcomeOf answer after bytes ≡ beamOutcome book b choices
-      unfolding beamOutcome
-      accepted e a c n = rw (eq-eqb _ 0 (number-is ∙ ap (λ (t : Bool). cond t 0 14) e)) (rw (a .0, a .1, c, n))
+pub accepted-block : (cap : ℕ) (book : Book) (b : Block) (choices : List ℕ) → 0 < cap → refusal (windowFor cap (covered b)) book b choices ≡ 0 → Passed (windowFor cap (covered b)) b
+unfolding refusal
+accepted-block cap book b choices some e = passed cap b some (searched (windowFor cap (covered b)) book b _ e .1 .0)
+
+pub by-check : (v : Window) (book : Book) (b : Block) (choices : List ℕ) {n : ℕ} → n ≡ searchRefusal v book b (enoughRoom 6 0 (v .length) (length choices) 0 0) → n ≡ refusal v book b choices
+unfolding refusal
+by-check v book b choices e = e ∙ ap (searchRefusal v book b) (no-rows 6 (v .length) (length choices) 0 0)
+
+-- ---- a block that passed, and its plan
+module _ (cap : ℕ) (book : Book) (b : Block) (choices : List ℕ) (some : 0 < cap) (none : refusal (windowFor cap (covered b)) book b choices ≡ 0) (p : Plan) (ev : p .window ≡ windowFor cap (b .shape .cx * b .shape .cy)) where
+  window-of : p .window ≡ windowFor cap (covered b)
+  unfolding covered
+  window-of = ev
+
+  pub checked-of : Planned b p → Coded p → Checked book b p
+  checked-of planned coded =
+      record {
+        book-passed = accepted-book _ book b choices none;
+        passed = subst⁻¹ (λ (v : Window). Passed v b) window-of (accepted-block cap book b choices some none);
+        planned = planned;
+        coded = coded;
+      }
+
+  pub room-here : 6 * p .window .length ≤ length choices
+  room-here = rw window-of (accepted-room _ book b choices none)
+
+  pub outcome-here : Checked book b p → {answer : Answer} {after : List ℤ} {bytes : List ℕ} {m : ℕ}
+      → ((s : Searched book (b .scan) (b .source) (b .inverse) (b .levels) p) → (answer ≡ answered (p .window) book (s .block)) × (after ≡ written (p .window) book (s .block)))
+      → bytes ≡ replicate m 255 → m ≡ length choices → PromisedIn (windowFor cap (covered b)) book b choices (outcomeOf answer after bytes)
+  outcome-here K f c n = promised _ book b (passed cap b some) choices (accepted-outcome _ book b choices none (own-answer b K window-of f) c n)
+
+pub refused-here : (cap : ℕ) (book : Book) (b : Block) (choices : List ℕ) → 0 < cap → {n : ℕ} → n ≡ refusal (windowFor cap (covered b)) book b choices → (n ≡ 0 → ⊥)
+    → PromisedIn (windowFor cap (covered b)) book b choices (outcomeOf (Refused n) (b .levels) choices)
+refused-here cap book b choices some e n = promised _ book b (passed cap b some) choices (refused-beam _ book b choices e n)
+
+-- document 01's window
+pub whole : {book : Book} {b : Block} {choices : List ℕ} {r : Outcome} → PromisedIn (windowFor 1024 (covered b)) book b choices r → Promised book b choices r
+whole {book} {b} {choices} {r} P = subst (λ (v : Window). PromisedIn v book b choices r) (whole-window (covered b)) P

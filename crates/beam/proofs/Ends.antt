@@ -23,17 +23,19 @@ use Rattle.steps.specs.declared.reading.Plan.{Plan}
 use Rattle.beam.specs.Beam.{pathTotal, beamCost, beamPath, problem}
 use Rattle.beam.specs.Held.{paths, considered, Ended}
 use Rattle.beam.specs.declared.ending.Best.{Best}
-use Rattle.beam.proofs.Priced.{bit-few, all-paths}
+use Rattle.search_checks.proofs.Checked.{bit-few}
+use Rattle.weights.specs.declared.Window.{Window}
+use Rattle.beam.proofs.Priced.{all-paths}
 
 pub first-few : (n c : ℕ) {r : ℕ} → r ≡ cond (leb n (64 * c / 16)) 1 0 → r ≤ 1
 first-few n c e = rw e (bit-few (leb n (64 * c / 16)))
 
 -- ---- one path's cost
-pub total-here : (book : Book) (b : Block) {plan : Plan} (xs : List Path) (s : Paths) (j prev : ℕ) (count : Float) → Planned b plan → PathsFor xs s → j < s .count
+pub total-here : (v : Window) (book : Book) (b : Block) {plan : Plan} (xs : List Path) (s : Paths) (j prev : ℕ) (count : Float) → Planned b plan → PathsFor xs s → j < s .count
     → prev ≡ cond (leb (getD (s .remaining) j 0) (64 * plan .covered / 16)) 1 0 → count ≡ countCost book b (getD (s .remaining) j 0)
-    → add binary32 (getD (s .costs) (2 * j + prev) nan) count ≡ pathTotal (problem book b) (getD xs j noPath)
+    → add binary32 (getD (s .costs) (2 * j + prev) nan) count ≡ pathTotal (problem v book b) (getD xs j noPath)
 unfolding pathTotal problemOf firstPrev
-total-here book b {plan} xs s j prev count w F h e f =
+total-here v book b {plan} xs s j prev count w F h e f =
     let l : j < length xs = omega (arith, F .count-is) in
     let small : prev ≤ 1 = subst⁻¹ (λ (k : ℕ). k ≤ 1) e (bit-few (leb (getD (s .remaining) j 0) (64 * plan .covered / 16))) in
     let value = F .cost-is j prev l small in
@@ -82,12 +84,12 @@ drop-all [] (suc j) h = refl
 drop-all (x ∷ xs) zero h = absurd (not-suc-le-zero h)
 drop-all (x ∷ xs) (suc j) h = drop-all xs j (le-of-suc-le-suc h)
 
-pub sofar-end : (book : Book) (b : Block) {j : ℕ} {best : Best} → length (paths book b 0) ≤ j → Sofar (problem book b) (paths book b 0) j best → Ended book b best
+pub sofar-end : (v : Window) (book : Book) (b : Block) {j : ℕ} {best : Best} → length (paths v book b 0) ≤ j → Sofar (problem v book b) (paths v book b 0) j best → Ended v book b best
 unfolding least holder beamCost beamPath
-sofar-end book b {j} {best} h s =
-    let none = drop-all (paths book b 0) j h in
+sofar-end v book b {j} {best} h s =
+    let none = drop-all (paths v book b 0) j h in
     record {
-      cost-is = (rw none at (s .cost-left)) ∙ ap (least (pathTotal (problem book b)) (inf false)) (all-paths book b);
-      path-is = (rw none at (s .path-left)) ∙ ap (holder (pathTotal (problem book b)) (inf false) noPath) (all-paths book b);
+      cost-is = (rw none at (s .cost-left)) ∙ ap (least (pathTotal (problem v book b)) (inf false)) (all-paths v book b);
+      path-is = (rw none at (s .path-left)) ∙ ap (holder (pathTotal (problem v book b)) (inf false) noPath) (all-paths v book b);
       inside = s .inside;
     }

@@ -5,7 +5,7 @@ use mathlib.Core.List.{List, [], _∷_, List·Memᴰ as Mem, List·Memᴰ·head 
 use Prim.Native.Nat.{ℕ, zero, suc, _+_, _-_, _*_, _/_, _≤_, _<_}
 use native.Mathlib.Omega.{arith}
 use native.Mathlib.Nat.{not-suc-le-zero, le-of-suc-le-suc}
-use lib.Dec.{T, leb, lit≤}
+use lib.Dec.{T}
 use lib.ListN.{length, getD}
 use lib.Ieee.{Float, inf, binary32, add, le}
 use lib.Ieee.Scale.{finite}
@@ -28,9 +28,11 @@ use Rattle.prices.specs.Checks.{bookRefusal}
 use Rattle.problem.proofs.Local.{candidates-level, local-capped, count-capped}
 use Rattle.problem.proofs.Problem.{tail-capped, past-most, positions-length}
 use Rattle.problem.specs.Tokens.{pastLength}
-use Rattle.weights.specs.Window.{windowOf}
-use Rattle.beam.specs.Beam.{beamPaths, pathTotal, pathsOf, beamCost, beamPath, beamCount, beamLevels, windowLength, problem}
-use Rattle.beam.specs.Held.{tail, position, positions, paths, pathAt}
+use Rattle.search_checks.specs.Checked.{positions}
+use Rattle.search_checks.proofs.Checked.{first-bit}
+use Rattle.weights.specs.declared.Window.{Window}
+use Rattle.beam.specs.Beam.{beamPaths, pathTotal, pathsOf, beamCost, beamPath, beamCount, beamLevels, problem}
+use Rattle.beam.specs.Held.{paths, pathAt}
 use Rattle.beam.proofs.Carried.{Priced, AllPriced, none-priced, more-priced, Carried, Stands, carried}
 
 -- an element of a list stands in it
@@ -39,62 +41,54 @@ at-listed [] d j h = absurd (not-suc-le-zero h)
 at-listed (x ∷ xs) d zero h = here refl
 at-listed (x ∷ xs) d (suc j) h = there (at-listed xs d j (le-of-suc-le-suc h))
 
-pub bit-few : (t : Bool) → cond t 1 0 ≤ 1
-bit-few true = lit≤ tt
-bit-few false = lit≤ tt
-
-pub first-bit : (b : Block) (n : ℕ) → firstPrev b n ≤ 1
-unfolding firstPrev
-first-bit b n = bit-few (leb n (64 * covered b / 16))
-
 -- the paths of the whole window
-pub all-paths : (book : Book) (b : Block) → paths book b 0 ≡ pathsOf (problem book b)
+pub all-paths : (v : Window) (book : Book) (b : Block) → paths v book b 0 ≡ pathsOf (problem v book b)
 unfolding problemOf
-all-paths book b =
-    let all : windowLength b - 0 ≡ windowLength b = omega arith in
-    ap (λ (n : ℕ). beamPaths (tail book b) (positionsFrom halfWidth (windowOf (covered b)) book b 0 n)) all
+all-paths v book b =
+    let all : v .length - 0 ≡ v .length = omega arith in
+    ap (λ (n : ℕ). beamPaths (tailOf v book b) (positionsFrom halfWidth v book b 0 n)) all
 
-module _ (book : Book) (ok : bookRefusal book ≡ 0) (b : Block) (P : Passed (windowOf (covered b)) b) where
-  pub local-cost : (i : ℕ) → i < windowLength b → Priced (position book b i)
+module _ (v : Window) (book : Book) (ok : bookRefusal book ≡ 0) (b : Block) (P : Passed v b) where
+  pub local-cost : (i : ℕ) → i < v .length → Priced (positionAt halfWidth v book b i)
   unfolding positionAt
-  local-cost i h = record { prices = λ r q c Q m. capped-cost binary32 1 194 _ (local-capped book ok (windowOf (covered b)) b P i h c (candidates-level book ok (windowOf (covered b)) b P i h c m) r q) }
+  local-cost i h = record { prices = λ r q c Q m. capped-cost binary32 1 194 _ (local-capped book ok v b P i h c (candidates-level book ok v b P i h c m) r q) }
 
-  tail-costs : (q : ℕ) → q ≤ 1 → T (cost (tail book b .cost q))
+  tail-costs : (q : ℕ) → q ≤ 1 → T (cost (tailOf v book b .cost q))
   unfolding tailOf
-  tail-costs q Q = capped-cost binary32 _ 194 _ (tail-capped book ok (windowOf (covered b)) b P q)
+  tail-costs q Q = capped-cost binary32 _ 194 _ (tail-capped book ok v b P q)
 
-  all-priced : (n i : ℕ) → i + n ≤ windowLength b → AllPriced (tail book b) (positionsFrom halfWidth (windowOf (covered b)) book b i n)
+  all-priced : (n i : ℕ) → i + n ≤ v .length → AllPriced (tailOf v book b) (positionsFrom halfWidth v book b i n)
   unfolding positionsFrom
   all-priced zero i h = none-priced tail-costs
   all-priced (suc n) i h = more-priced (local-cost i (omega arith)) (all-priced n (suc i) (omega arith))
 
   -- ---- the paths from i on
-  pub carried-here : (i : ℕ) → i ≤ windowLength b → (x : Path) → Mem x (paths book b i) → Carried (tail book b) (positions book b i) x
-  carried-here i h x m = carried (tail book b) (positions book b i) (all-priced (windowLength b - i) i (omega arith)) x m
+  pub carried-here : (i : ℕ) → i ≤ v .length → (x : Path) → Mem x (paths v book b i) → Carried (tailOf v book b) (positions halfWidth v book b i) x
+  carried-here i h x m = carried (tailOf v book b) (positions halfWidth v book b i) (all-priced (v .length - i) i (omega arith)) x m
 
-  pub carried-at : (i j : ℕ) → i ≤ windowLength b → j < length (paths book b i) → Carried (tail book b) (positions book b i) (pathAt book b i j)
-  carried-at i j h k = carried-here i h _ (at-listed (paths book b i) noPath j k)
+  pub carried-at : (i j : ℕ) → i ≤ v .length → j < length (paths v book b i) → Carried (tailOf v book b) (positions halfWidth v book b i) (pathAt v book b i j)
+  carried-at i j h k = carried-here i h _ (at-listed (paths v book b i) noPath j k)
 
-  fits-here : (i : ℕ) → i ≤ windowLength b → (x : Path) → Carried (tail book b) (positions book b i) x → x .remaining + (covered b + i) ≤ 64 * covered b
+  fits-here : (i : ℕ) → i ≤ v .length → (x : Path) → Carried (tailOf v book b) (positions halfWidth v book b i) x → x .remaining + (covered b + i) ≤ 64 * covered b
   unfolding tailOf pastLength
-  fits-here i h x C = omega (arith, C .most, positions-length halfWidth (windowOf (covered b)) book b i (windowLength b - i), past-most (windowOf (covered b)) b, P .window .fits)
+  fits-here i h x C = omega (arith, C .most, positions-length halfWidth v book b i (v .length - i), past-most v b, P .window .fits)
 
   -- a count fits behind its position
-  pub count-fits : (i j : ℕ) → i ≤ windowLength b → j < length (paths book b i) → pathAt book b i j .remaining + (covered b + i) ≤ 64 * covered b
+  pub count-fits : (i j : ℕ) → i ≤ v .length → j < length (paths v book b i) → pathAt v book b i j .remaining + (covered b + i) ≤ 64 * covered b
   count-fits i j h k = fits-here i h _ (carried-at i j h k)
 
   -- ---- the paths of the whole window
   abbrev whole : Problem
-  whole = problem book b
+  whole = problem v book b
 
   whole-carried : (x : Path) → Mem x (pathsOf whole) → Carried (whole .tail) (whole .positions) x
   unfolding problemOf
-  whole-carried x m = carried (tail book b) _ (all-priced (windowLength b) 0 (omega arith)) x m
+  whole-carried x m = carried (tailOf v book b) _ (all-priced (v .length) 0 (omega arith)) x m
 
   count-cost : (x : Path) → Mem x (pathsOf whole) → T (cost (countCost book b (x .remaining)))
   count-cost x m =
-      let fits = fits-here 0 (omega arith) x (carried-here 0 (omega arith) x (subst⁻¹ (Mem x) (all-paths book b) m)) in
-      capped-cost binary32 1 194 _ (count-capped book ok (windowOf (covered b)) b P (x .remaining) (omega (arith, P .most)))
+      let fits = fits-here 0 (omega arith) x (carried-here 0 (omega arith) x (subst⁻¹ (Mem x) (all-paths v book b) m)) in
+      capped-cost binary32 1 194 _ (count-capped book ok v b P (x .remaining) (omega (arith, P .most)))
 
   total-cost : (x : Path) → Mem x (pathsOf whole) → T (cost (pathTotal whole x))
   unfolding pathTotal problemOf
@@ -144,7 +138,7 @@ module _ (book : Book) (ok : bookRefusal book ≡ 0) (b : Block) (P : Passed (wi
     pub levels-cost : wholeCost whole (beamLevels whole) ≡ beamCost whole
     unfolding beamLevels beamCount wholeCost countOf problemOf pathTotal
     levels-cost =
-        ap (λ (n : ℕ). add binary32 (costOf (tail book b) (positionsFrom halfWidth (windowOf (covered b)) book b 0 (windowLength b)) (firstPrev b n) (beamLevels whole)) (countCost book b n)) levels-count
+        ap (λ (n : ℕ). add binary32 (costOf (tailOf v book b) (positionsFrom halfWidth v book b 0 (v .length)) (firstPrev b n) (beamLevels whole)) (countCost book b n)) levels-count
         ∙ ap (λ (x : Float). add binary32 x (countCost book b (beamPath whole .remaining))) (stands .costs)
         ∙ sym (found .value)
 

@@ -18,7 +18,7 @@ use Rattle.least_cost.specs.Position.{Position, Tail}
 use Rattle.least_cost.specs.Search.{Problem, least, holder}
 use Rattle.prices.specs.Book.{Book}
 use Rattle.scan.specs.Scan.{put}
-use Rattle.weights.specs.Window.{windowOf}
+use Rattle.weights.specs.declared.Window.{Window}
 
 -- ---- The search
 -- what follows the window, as the one path to start from
@@ -51,24 +51,22 @@ unfoldable pub beamLevels : Problem → List ℤ
 beamLevels w = beamPath w .levels (w .firstPrev (beamCount w))
 
 -- ---- The search of a block
-abbrev pub windowLength : Block → ℕ
-windowLength b = windowOf (covered b) .length
-
--- The block's search problem. Its band plays no part in the beam, which reads of a position the candidates and the local costs alone: any half-width gives the same.
-abbrev pub problem : Book → Block → Problem
-problem book b = problemOf halfWidth (windowOf (covered b)) book b
+-- The block's search problem, with a window v. Its band plays no part in the beam, which reads of a position the candidates and the local costs alone: any half-width gives the
+-- same.
+abbrev pub problem : Window → Book → Block → Problem
+problem v book b = problemOf halfWidth v book b
 
 -- the cost and the count found, or 16 where no path's cost is finite
-unfoldable pub answered : Book → Block → Answer
-answered book b =
-    let p = problem book b in
+unfoldable pub answered : Window → Book → Block → Answer
+answered v book b =
+    let p = problem v book b in
     cond (finite (beamCost p)) (Cost (beamCost p) (beamCount p)) (Refused 16)
 
 -- the levels found, each at its place; after 16 the block is as it was
-unfoldable pub written : Book → Block → List ℤ
-written book b =
-    let p = problem book b in
-    cond (finite (beamCost p)) (put (b .scan) (beamLevels p) (covered b) (windowLength b) (b .levels)) (b .levels)
+unfoldable pub written : Window → Book → Block → List ℤ
+written v book b =
+    let p = problem v book b in
+    cond (finite (beamCost p)) (put (b .scan) (beamLevels p) (covered b) (v .length) (b .levels)) (b .levels)
 
 -- ---- What the call answers, and what the lent buffers hold afterwards
 pub record Outcome : Type 0 where
@@ -80,12 +78,12 @@ abbrev pub outcomeOf : Answer → List ℤ → List ℕ → Outcome
 outcomeOf answer levels choices = record { answer = answer; levels = levels; choices = choices }
 
 -- the first of checks 1 to 14 that refuses; 0 where none does
-unfoldable pub refusal : Book → Block → List ℕ → ℕ
-refusal book b choices = searchRefusal book b (beamRoom (windowLength b) (length choices))
+unfoldable pub refusal : Window → Book → Block → List ℕ → ℕ
+refusal v book b choices = searchRefusal v book b (beamRoom (v .length) (length choices))
 
 -- Refused by a check of 1 to 14, nothing changes; else all of the choices, surplus included, end as 255.
-unfoldable pub beamOutcome : Book → Block → List ℕ → Outcome
-beamOutcome book b choices =
-    cond (eqb (refusal book b choices) 0)
-    (outcomeOf (answered book b) (written book b) (replicate (length choices) 255))
-    (outcomeOf (Refused (refusal book b choices)) (b .levels) choices)
+unfoldable pub beamOutcome : Window → Book → Block → List ℕ → Outcome
+beamOutcome v book b choices =
+    cond (eqb (refusal v book b choices) 0)
+    (outcomeOf (answered v book b) (written v book b) (replicate (length choices) 255))
+    (outcomeOf (Refused (refusal v book b choices)) (b .levels) choices)

@@ -45,7 +45,7 @@ fn total_of(
     requires { ⌜ Countable (bookOf clusters (now map) (now configs) (now symbols) (now ready)) plan kept ⌝ }
     requires { ⌜ j < kept .count ⌝ }
     ensures { λ r. ⌜ ((b : Block) (xs : List Path) → Planned b plan → PathsFor xs kept
-        → r ≡ pathTotal (problem (bookOf clusters (now (map .entry)) (now (configs .entry)) (now (symbols .entry)) (now (ready .entry))) b) (getD xs j noPath)) ⌝ }
+        → r ≡ pathTotal (problem (plan .window) (bookOf clusters (now (map .entry)) (now (configs .entry)) (now (symbols .entry)) (now (ready .entry))) b) (getD xs j noPath)) ⌝ }
 {
     let count = kept.remaining[j];
     let prev = tokens::first_prev(plan.covered, count);
@@ -63,8 +63,8 @@ pub(crate) fn best_path(
     kept: Paths,
 ) -> Best
     requires { ⌜ Countable (bookOf clusters (now map) (now configs) (now symbols) (now ready)) plan kept ⌝ }
-    ensures { λ r. ⌜ ((b : Block) → Planned b plan → PathsFor (paths (bookOf clusters (now (map .entry)) (now (configs .entry)) (now (symbols .entry)) (now (ready .entry))) b 0) kept
-        → Ended (bookOf clusters (now (map .entry)) (now (configs .entry)) (now (symbols .entry)) (now (ready .entry))) b r) ⌝ }
+    ensures { λ r. ⌜ ((b : Block) → Planned b plan → PathsFor (paths (plan .window) (bookOf clusters (now (map .entry)) (now (configs .entry)) (now (symbols .entry)) (now (ready .entry))) b 0) kept
+        → Ended (plan .window) (bookOf clusters (now (map .entry)) (now (configs .entry)) (now (symbols .entry)) (now (ready .entry))) b r) ⌝ }
 {
     // No path stands at 3: where none is cheaper than +infinity, none is found.
     let mut best = Best {

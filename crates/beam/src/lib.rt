@@ -9,11 +9,128 @@ use block::Answer;
 use block::Shape;
 use weights::Settings;
 ghost use mathlib.Core.Path.{_≡_};
-ghost use Rattle.block.specs.Block.{blockOf};
+ghost use Prim.Native.Nat.{_<_};
+ghost use Rattle.block.specs.Block.{blockOf, covered};
 ghost use Rattle.prices.specs.Book.{bookOf};
-ghost use Rattle.beam.specs.Beam.{beamOutcome, outcomeOf};
-ghost use Rattle.block.specs.Outcome.{RefusedKeeps};
-ghost use Rattle.beam.specs.Demand.{RefusedExactly, KeptAnswered};
+ghost use Rattle.weights.specs.Window.{windowFor};
+ghost use Rattle.beam.specs.Beam.{outcomeOf, refusal};
+ghost use Rattle.beam.specs.Demand.{PromisedIn, Promised};
+
+// Choice bytes a window position.
+pub const BEAM_BYTES: usize = 6;
+
+// A cap that leaves document 01's window whole.
+const WINDOW_CAP: usize = 1024;
+
+// The search alone, for arguments that no check of 1 to 14 refuses: a window of at most `cap` positions.
+pub fn search_beam(
+    clusters: u32,
+    map: &[u8],
+    configs: &[u8],
+    symbols: &[f32],
+    ready: &[f32],
+    shape: Shape,
+    settings: Settings,
+    bias: DequantBias,
+    scale: f32,
+    scan: &[u32],
+    source: &[f32],
+    inv_qm: &[f32],
+    levels: &mut [i32],
+    choices: &mut [u8],
+    cap: usize,
+) -> Answer
+    requires { ⌜ 0 < cap ⌝ }
+    requires { ⌜ (let b = blockOf shape settings bias scale (now scan) (now source) (now «inv_qm») (now levels) in refusal (windowFor cap (covered b)) (bookOf clusters (now map) (now configs) (now symbols) (now ready)) b (now choices) ≡ 0) ⌝ }
+    ensures { λ r. ⌜ (let b = blockOf shape settings bias scale (now (scan .entry)) (now (source .entry)) (now («inv_qm» .entry)) (now (levels .entry)) in PromisedIn (windowFor cap (covered b))
+        (bookOf clusters (now (map .entry)) (now (configs .entry)) (now (symbols .entry)) (now (ready .entry))) b
+        (now (choices .entry))
+        (outcomeOf r (now (levels .exit)) (now (choices .exit)))) ⌝ }
+{
+    let plan = steps::reading::plan_of(shape, settings, bias, scale, cap);
+    let answer = search::search(
+        clusters,
+        map,
+        configs,
+        symbols,
+        ready,
+        scan,
+        source,
+        inv_qm,
+        levels,
+        plan,
+        choices,
+    );
+    rooms::clear_choices(choices);
+    answer
+}
+
+// The checks, then the search.
+pub fn rdoq_block_beam_in(
+    clusters: u32,
+    map: &[u8],
+    configs: &[u8],
+    symbols: &[f32],
+    ready: &[f32],
+    shape: Shape,
+    settings: Settings,
+    bias: DequantBias,
+    scale: f32,
+    scan: &[u32],
+    source: &[f32],
+    inv_qm: &[f32],
+    levels: &mut [i32],
+    choices: &mut [u8],
+    cap: usize,
+) -> Answer
+    requires { ⌜ 0 < cap ⌝ }
+    ensures { λ r. ⌜ (let b = blockOf shape settings bias scale (now (scan .entry)) (now (source .entry)) (now («inv_qm» .entry)) (now (levels .entry)) in PromisedIn (windowFor cap (covered b))
+        (bookOf clusters (now (map .entry)) (now (configs .entry)) (now (symbols .entry)) (now (ready .entry))) b
+        (now (choices .entry))
+        (outcomeOf r (now (levels .exit)) (now (choices .exit)))) ⌝ }
+{
+    let refusal = search_checks::check_search(
+        clusters,
+        map,
+        configs,
+        symbols,
+        ready,
+        shape,
+        settings,
+        bias,
+        scale,
+        scan,
+        source,
+        inv_qm,
+        levels,
+        cap,
+        BEAM_BYTES,
+        0,
+        choices.len(),
+        0,
+        0,
+    );
+    if refusal != 0 {
+        return Answer::Refused(refusal);
+    }
+    search_beam(
+        clusters,
+        map,
+        configs,
+        symbols,
+        ready,
+        shape,
+        settings,
+        bias,
+        scale,
+        scan,
+        source,
+        inv_qm,
+        levels,
+        choices,
+        cap,
+    )
+}
 
 // Writes the levels of the cheapest path that is left, and answers its cost and its count of nonzero levels from scan position c on; or
 // refuses with 16 where every path that is left has an infinite cost. Both ways the choice bytes end as 255, surplus included. Room: six choice bytes a window position. Refused by one of checks 1
@@ -34,16 +151,18 @@ pub fn rdoq_block_beam(
     levels: &mut [i32],
     choices: &mut [u8],
 ) -> Answer
-    ensures { λ r. ⌜ outcomeOf r (now (levels .exit)) (now (choices .exit)) ≡ beamOutcome (bookOf clusters (now (map .entry)) (now (configs .entry)) (now (symbols .entry)) (now (ready .entry))) (blockOf shape settings bias scale (now (scan .entry)) (now (source .entry)) (now («inv_qm» .entry)) (now (levels .entry))) (now (choices .entry)) ⌝ }
-    ensures { λ r. ⌜ RefusedExactly (bookOf clusters (now (map .entry)) (now (configs .entry)) (now (symbols .entry)) (now (ready .entry))) (blockOf shape settings bias scale (now (scan .entry)) (now (source .entry)) (now («inv_qm» .entry)) (now (levels .entry))) (now (choices .entry)) r ⌝ }
-    ensures { λ r. ⌜ KeptAnswered (bookOf clusters (now (map .entry)) (now (configs .entry)) (now (symbols .entry)) (now (ready .entry))) (blockOf shape settings bias scale (now (scan .entry)) (now (source .entry)) (now («inv_qm» .entry)) (now (levels .entry))) (now (levels .exit)) r ⌝ }
-    ensures { λ r. ⌜ RefusedKeeps (blockOf shape settings bias scale (now (scan .entry)) (now (source .entry)) (now («inv_qm» .entry)) (now (levels .entry))) (now (levels .exit)) r ⌝ }
+    ensures { λ r. ⌜ Promised
+        (bookOf clusters (now (map .entry)) (now (configs .entry)) (now (symbols .entry)) (now (ready .entry)))
+        (blockOf shape settings bias scale (now (scan .entry)) (now (source .entry)) (now («inv_qm» .entry)) (now (levels .entry)))
+        (now (choices .entry))
+        (outcomeOf r (now (levels .exit)) (now (choices .exit))) ⌝ }
 {
-    let book = book_checks::check_book(clusters, map, configs, symbols, ready);
-    if book != 0 {
-        return Answer::Refused(book);
-    }
-    let refusal = block_checks::check_block(
+    rdoq_block_beam_in(
+        clusters,
+        map,
+        configs,
+        symbols,
+        ready,
         shape,
         settings,
         bias,
@@ -52,28 +171,7 @@ pub fn rdoq_block_beam(
         source,
         inv_qm,
         levels,
-    );
-    if refusal != 0 {
-        return Answer::Refused(refusal);
-    }
-    let plan = steps::reading::plan_of(shape, settings, bias, scale);
-    let window = plan.window;
-    if !block_checks::beam_room(window.length, choices.len()) {
-        return Answer::Refused(14);
-    }
-    let answer = search::search(
-        clusters,
-        map,
-        configs,
-        symbols,
-        ready,
-        scan,
-        source,
-        inv_qm,
-        levels,
-        plan,
         choices,
-    );
-    rooms::clear_choices(choices);
-    answer
+        WINDOW_CAP,
+    )
 }

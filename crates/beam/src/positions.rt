@@ -6,8 +6,8 @@ ghost use Prim.Native.Nat.{suc, _+_, _*_, _≤_, _<_};
 ghost use lib.ListN.{length};
 ghost use Rattle.beam_paths.specs.Held.{PathsFor};
 ghost use Rattle.prices.specs.Book.{bookOf};
-ghost use Rattle.beam.specs.Beam.{windowLength};
-ghost use Rattle.beam.specs.Held.{Searched, paths, Stored, Stepped, Reached};
+ghost use Rattle.search_checks.specs.Checked.{Searched};
+ghost use Rattle.beam.specs.Held.{paths, Stored, Stepped, Reached};
 
 // Three paths, each with a choice for either `prev`.
 pub(crate) const BEAM_STRIDE: usize = 6;
@@ -39,10 +39,10 @@ fn take_position(
 ) -> Paths
     requires { ⌜ Searched (bookOf clusters (now map) (now configs) (now symbols) (now ready)) (now scan) (now source) (now «inv_qm») (now levels) plan ⌝ }
     requires { ⌜ ((w : Searched (bookOf clusters (now map) (now configs) (now symbols) (now ready)) (now scan) (now source) (now «inv_qm») (now levels) plan)
-        → (i < windowLength (w .block)) × PathsFor (paths (bookOf clusters (now map) (now configs) (now symbols) (now ready)) (w .block) (suc i)) behind) ⌝ }
+        → (i < plan .window .length) × PathsFor (paths (plan .window) (bookOf clusters (now map) (now configs) (now symbols) (now ready)) (w .block) (suc i)) behind) ⌝ }
     requires { ⌜ 6 * i + 6 ≤ length (now choices) ⌝ }
     ensures { λ r. ⌜ ((w : Searched (bookOf clusters (now (map .entry)) (now (configs .entry)) (now (symbols .entry)) (now (ready .entry))) (now (scan .entry)) (now (source .entry)) (now («inv_qm» .entry)) (now (levels .entry)) plan)
-        → Stepped (bookOf clusters (now (map .entry)) (now (configs .entry)) (now (symbols .entry)) (now (ready .entry))) (w .block) i (now (choices .entry)) (now (choices .exit)) r) ⌝ }
+        → Stepped (plan .window) (bookOf clusters (now (map .entry)) (now (configs .entry)) (now (symbols .entry)) (now (ready .entry))) (w .block) i (now (choices .entry)) (now (choices .exit)) r) ⌝ }
 {
     let mut offered = [0i32; 5];
     let offer = plan.offer(scan, source, inv_qm, levels, i, &mut offered);
@@ -79,11 +79,11 @@ pub(crate) fn take_positions(
 ) -> Paths
     requires { ⌜ Searched (bookOf clusters (now map) (now configs) (now symbols) (now ready)) (now scan) (now source) (now «inv_qm») (now levels) plan ⌝ }
     requires { ⌜ ((w : Searched (bookOf clusters (now map) (now configs) (now symbols) (now ready)) (now scan) (now source) (now «inv_qm») (now levels) plan)
-        → PathsFor (paths (bookOf clusters (now map) (now configs) (now symbols) (now ready)) (w .block) (windowLength (w .block))) start) ⌝ }
+        → PathsFor (paths (plan .window) (bookOf clusters (now map) (now configs) (now symbols) (now ready)) (w .block) (plan .window .length)) start) ⌝ }
     requires { ⌜ 6 * plan .window .length ≤ length (now choices) ⌝ }
     ensures { λ r. ⌜ length (now (choices .exit)) ≡ length (now (choices .entry)) ⌝ }
     ensures { λ r. ⌜ ((w : Searched (bookOf clusters (now (map .entry)) (now (configs .entry)) (now (symbols .entry)) (now (ready .entry))) (now (scan .entry)) (now (source .entry)) (now («inv_qm» .entry)) (now (levels .entry)) plan)
-        → Reached (bookOf clusters (now (map .entry)) (now (configs .entry)) (now (symbols .entry)) (now (ready .entry))) (w .block) 0 (now (choices .exit)) r) ⌝ }
+        → Reached (plan .window) (bookOf clusters (now (map .entry)) (now (configs .entry)) (now (symbols .entry)) (now (ready .entry))) (w .block) 0 (now (choices .exit)) r) ⌝ }
 {
     let window = plan.window;
     let mut paths = start;

@@ -7,7 +7,6 @@ ghost use Prim.Native.Nat.{_+_, _*_, _≤_, _<_};
 ghost use lib.ListN.{length, getD};
 ghost use Rattle.block.specs.Block.{covered};
 ghost use Rattle.scan.specs.Scan.{put};
-ghost use Rattle.beam.specs.Beam.{windowLength};
 ghost use Rattle.beam.specs.Held.{Walkable, levelsOf};
 
 // The choice at a position, for a path and `prev`.
@@ -31,7 +30,7 @@ pub(crate) fn write_levels(
     count: usize,
 )
     requires { ⌜ Walkable (now scan) (now source) (now «inv_qm») (now levels) plan (now choices) first count ⌝ }
-    ensures { λ _. ⌜ ((w : Walkable (now (scan .entry)) (now (source .entry)) (now («inv_qm» .entry)) (now (levels .entry)) plan (now (choices .entry)) first count) → now (levels .exit) ≡ put (now (scan .entry)) (levelsOf (w .book) (w .block) first count) (covered (w .block)) (windowLength (w .block)) (now (levels .entry))) ⌝ }
+    ensures { λ _. ⌜ ((w : Walkable (now (scan .entry)) (now (source .entry)) (now («inv_qm» .entry)) (now (levels .entry)) plan (now (choices .entry)) first count) → now (levels .exit) ≡ put (now (scan .entry)) (levelsOf (plan .window) (w .book) (w .searched .block) first count) (covered (w .searched .block)) (plan .window .length) (now (levels .entry))) ⌝ }
 {
     let window = plan.window;
     let covered = plan.covered;

@@ -13,7 +13,6 @@ use Rattle.prices.specs.Book.{Book}
 use Rattle.prices.specs.Checks.{each, bookRefusal}
 use Rattle.scan.specs.Scan.{eachOnce}
 use Rattle.weights.specs.Settings.{validSettings}
-use Rattle.weights.specs.Window.{windowOf}
 use Rattle.weights.specs.declared.Window.{Window}
 use Rattle.block.specs.Block.{Block, covered, inputAt, ideal}
 
@@ -65,17 +64,21 @@ contentChecks v b = (check11 b, 11) ∷ (check12 b, 12) ∷ (check13 v b, 13) �
 unfoldable pub blockRefusal : Window → Block → ℕ → ℕ
 blockRefusal v b later = firstRefused (formChecks b ++ contentChecks v b) later
 
--- The first refusal of a search among checks 1 to 14 and 18; 0 where there is none. `room`: check 14 passes.
-unfoldable pub searchRefusal : Book → Block → Bool → ℕ
-searchRefusal book b room = cond (eqb (bookRefusal book) 0) (blockRefusal (windowOf (covered b)) b (cond room 0 14)) (bookRefusal book)
+-- The first refusal of a search of the window v among checks 1 to 14 and 18; 0 where there is none. `room`: check 14 passes.
+unfoldable pub searchRefusal : Window → Book → Block → Bool → ℕ
+searchRefusal v book b room = cond (eqb (bookRefusal book) 0) (blockRefusal v b (cond room 0 14)) (bookRefusal book)
 
--- Check 14. The trellis asks for a byte and, in each cost row, a float for each of a position's 2 (2 w + 2) states, w being the band's half-width ..
-unfoldable pub states : ℕ → ℕ
+-- Check 14. A search asks for `bytes` choice bytes a window position and, in each cost row, for `floats` floats.
+unfoldable pub enoughRoom : ℕ → ℕ → ℕ → ℕ → ℕ → ℕ → Bool
+enoughRoom bytes floats window choices rowA rowB = leb (bytes * window) choices && leb floats rowA && leb floats rowB
+
+-- The trellis: one of each for each of a position's states, w being the band's half-width.
+abbrev pub states : ℕ → ℕ
 states w = 2 * (2 * w + 2)
 
-unfoldable pub trellisRoom : ℕ → ℕ → ℕ → ℕ → ℕ → Bool
-trellisRoom w window choices rowA rowB = leb (states w * window) choices && leb (states w) rowA && leb (states w) rowB
+abbrev pub trellisRoom : ℕ → ℕ → ℕ → ℕ → ℕ → Bool
+trellisRoom w window choices rowA rowB = enoughRoom (states w) (states w) window choices rowA rowB
 
--- .. and the beam for six bytes a position: a path of three for each `prev`.
-unfoldable pub beamRoom : ℕ → ℕ → Bool
+-- The beam: six bytes, a path of three for each `prev`. Greedy: nothing.
+abbrev pub beamRoom : ℕ → ℕ → Bool
 beamRoom window choices = leb (6 * window) choices

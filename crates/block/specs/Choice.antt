@@ -5,7 +5,6 @@ use mathlib.Core.List.{List}
 use lib.IntN.{ℤ}
 use Rattle.least_cost.specs.Choice.{Choice, remaining}
 use Rattle.prices.specs.Book.{Book}
-use Rattle.weights.specs.Window.{windowOf}
 use Rattle.weights.specs.declared.Window.{Window}
 use Rattle.block.specs.Band.{pastWindow, positionsFrom}
 use Rattle.block.specs.Block.{Block, withLevels, covered, inputAt, inputFrom, inputRemaining}
@@ -13,10 +12,6 @@ use Rattle.block.specs.Block.{Block, withLevels, covered, inputAt, input
 -- of a block's levels x, those in the window
 unfoldable pub windowLevels : Window → Block → List ℤ → List ℤ
 windowLevels v b x = inputFrom (withLevels b x) (covered b) (v .length)
-
--- those in document 01's window
-abbrev pub inWindow : Block → List ℤ → List ℤ
-inWindow b x = windowLevels (windowOf (covered b)) b x
 
 -- The levels x are a choice for the block b. The count of the search problem (its half-width w plays no part) is that of the nonzero levels from scan position c on.
 pub record IsChoice (w : ℕ) (v : Window) (book : Book) (b : Block) (x : List ℤ) : Type 0 where

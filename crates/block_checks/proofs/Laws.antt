@@ -23,7 +23,7 @@ use Rattle.prices.specs.Checks.{bookRefusal}
 use Rattle.prices.proofs.Each.{each-below}
 use Rattle.scan.proofs.Once.{perm-of}
 use Rattle.weights.specs.Settings.{validSettings}
-use Rattle.weights.specs.Window.{windowOf}
+use Rattle.weights.specs.Window.{windowLen, restoreLen, windowOf, windowFor}
 use Rattle.weights.specs.declared.Window.{Window}
 use Rattle.block_checks.specs.Parts.{formRefusal, contentRefusal}
 use Rattle.block_checks.specs.Passed.{Windowed, Passed}
@@ -109,7 +109,7 @@ both-parts v b e =
     (form, sym (form-passed v b form) ∙ e)
 
 -- document 01's window
-pub windowed : (c : ℕ) → 0 < c → Windowed c (windowOf c)
+windowed : (c : ℕ) → 0 < c → Windowed c (windowOf c)
 unfolding windowOf
 windowed c h = go (eqb c 1) refl
   where
@@ -131,6 +131,22 @@ windowed c h = go (eqb c 1) refl
           most = le-trans (min-le-left (min (64 * c) 1024) (63 * c)) (min-le-right (64 * c) 1024);
           restoring = le-min (le-min (omega arith) (omega arith)) (omega arith);
         }
+
+-- .. and under a cap
+pub window-fits : (cap c : ℕ) → 0 < c → c + windowFor cap c .length ≤ 64 * c
+unfolding windowFor windowOf
+window-fits cap c h = omega (arith, windowed c h .fits, min-le-right cap (windowLen c))
+
+pub windowed-for : (cap c : ℕ) → 0 < cap → 0 < c → Windowed c (windowFor cap c)
+unfolding windowFor windowOf
+windowed-for cap c some h =
+    let w = windowed c h in
+    record {
+      some = le-min some (w .some);
+      fits = window-fits cap c h;
+      most = le-trans (min-le-right cap (windowLen c)) (w .most);
+      restoring = min-le-right (restoreLen c) (min cap (windowLen c));
+    }
 
 module _ (v : Window) (b : Block) where
   levels-current : check12 b ≡ true → (k : ℕ) → covered b ≤ k → k < 64 * covered b → T (isCurrent (inputAt b k))
@@ -173,11 +189,12 @@ module _ (v : Window) (b : Block) where
         window = w;
       }
 
--- the window of document 01
-pub passed : (b : Block) → blockRefusal (windowOf (covered b)) b 0 ≡ 0 → Passed (windowOf (covered b)) b
-passed b e =
-    let f = formed b (both-parts (windowOf (covered b)) b e .0) in
-    passed-in (windowOf (covered b)) b e (windowed (covered b) (covered-some (f .power)))
+-- a window under a cap
+pub passed : (cap : ℕ) (b : Block) → 0 < cap → blockRefusal (windowFor cap (covered b)) b 0 ≡ 0 → Passed (windowFor cap (covered b)) b
+passed cap b some e =
+    let v = windowFor cap (covered b) in
+    let f = formed b (both-parts v b e .0) in
+    passed-in v b e (windowed-for cap (covered b) some (covered-some (f .power)))
 
 -- what comes after a block that is refused changes nothing; after one that passes it is answered
 later-none : (v : Window) (b : Block) (later : ℕ) → (blockRefusal v b 0 ≡ 0 → ⊥) → blockRefusal v b later ≡ blockRefusal v b 0
@@ -193,16 +210,16 @@ unfolding blockRefusal formChecks contentChecks
 none-fails v b later e = none-refused (formChecks b ++ contentChecks v b) later refl e
 
 -- ---- the refusals of a search, as its returns meet them
-module _ (book : Book) (b : Block) (room : Bool) where
-  pub refused-book : (bookRefusal book ≡ 0 → ⊥) → searchRefusal book b room ≡ bookRefusal book
+module _ (v : Window) (book : Book) (b : Block) (room : Bool) where
+  pub refused-book : (bookRefusal book ≡ 0 → ⊥) → searchRefusal v book b room ≡ bookRefusal book
   unfolding searchRefusal
   refused-book n = rw (ne-eqb (bookRefusal book) 0 n)
 
   module _ (ok : bookRefusal book ≡ 0) where
-    pub refused-block : (blockRefusal (windowOf (covered b)) b 0 ≡ 0 → ⊥) → searchRefusal book b room ≡ blockRefusal (windowOf (covered b)) b 0
+    pub refused-block : (blockRefusal v b 0 ≡ 0 → ⊥) → searchRefusal v book b room ≡ blockRefusal v b 0
     unfolding searchRefusal
-    refused-block n = rw (eq-eqb (bookRefusal book) 0 ok) (later-none (windowOf (covered b)) b (cond room 0 14) n)
+    refused-block n = rw (eq-eqb (bookRefusal book) 0 ok) (later-none v b (cond room 0 14) n)
 
-    pub refused-room : blockRefusal (windowOf (covered b)) b 0 ≡ 0 → searchRefusal book b room ≡ cond room 0 14
+    pub refused-room : blockRefusal v b 0 ≡ 0 → searchRefusal v book b room ≡ cond room 0 14
     unfolding searchRefusal
-    refused-room e = rw (eq-eqb (bookRefusal book) 0 ok) (after-all (windowOf (covered b)) b (cond room 0 14) e)
+    refused-room e = rw (eq-eqb (bookRefusal book) 0 ok) (after-all v b (cond room 0 14) e)

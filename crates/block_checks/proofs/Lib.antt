@@ -2,4 +2,3 @@ mod Sides
 pub mod Laws
 pub mod Reading
 mod Returns
-mod Room

@@ -19,10 +19,10 @@ use Rattle.prices.specs.Checks.{each}
 use Rattle.scan.specs.Scan.{eachOnce, Perm, levelAt}
 use Rattle.scan.proofs.Once.{perm-of}
 use Rattle.weights.specs.Settings.{validSettings}
-use Rattle.weights.specs.Window.{windowOf}
+use Rattle.weights.specs.Window.{windowFor}
 use Rattle.weights.specs.declared.Window.{Window}
 use Rattle.block_checks.specs.Parts.{formRefusal, contentRefusal}
-use Rattle.block_checks.proofs.Laws.{formed, windowed}
+use Rattle.block_checks.proofs.Laws.{formed, window-fits}
 
 -- a test that the code turns round
 pub failed : {r a : Bool} → r ≡ a → not r ≡ true → a ≡ false
@@ -127,9 +127,9 @@ module _ (b : Block) where
     unfolding covered
     inverse-held = rw blocks (formed b ok .inverse-long)
 
-    pub window-held : {v : Window} → v ≡ windowOf c → c + v .length ≤ 64 * c
+    pub window-held : (cap : ℕ) {v : Window} → v ≡ windowFor cap c → c + v .length ≤ 64 * c
     unfolding covered
-    window-held {v} e = rw (e, blocks) (windowed (b .shape .cx * b .shape .cy) (covered-some (formed b ok .power)) .fits)
+    window-held cap {v} e = rw (e, blocks) (window-fits cap (b .shape .cx * b .shape .cy) (covered-some (formed b ok .power)))
 
   pub eleven : {r : Bool} → r ≡ eachOnce (b .scan) → r ≡ check11 b
   unfolding check11
@@ -141,10 +141,10 @@ module _ (b : Block) where
     twelve h = rw blocks at h
 
     pub thirteen :
-        {v : Window} → v ≡ windowOf c → r ≡ each (v .length) (λ i. isIdeal (idealAt (b .scan) (b .source) (b .inverse) (b .scale) (c + i)))
-        → r ≡ check13 (windowOf (b .shape .cx * b .shape .cy)) b
+        (cap : ℕ) {v : Window} → v ≡ windowFor cap c → r ≡ each (v .length) (λ i. isIdeal (idealAt (b .scan) (b .source) (b .inverse) (b .scale) (c + i)))
+        → r ≡ check13 (windowFor cap (b .shape .cx * b .shape .cy)) b
     unfolding check13 ideal covered
-    thirteen e h = rw (e, blocks) at h
+    thirteen cap e h = rw (e, blocks) at h
 
   module _ (v : Window) where
     pub at11 : check11 b ≡ false → 11 ≡ contentRefusal v b

@@ -10,12 +10,12 @@ ghost use lib.IntN.{pos};
 ghost use lib.ListN.{length, getD};
 ghost use Rattle.ac_context.specs.Contexts.{isPowerBelow};
 ghost use Rattle.block.specs.Block.{blockOf, covered, idealAt};
-ghost use Rattle.block.specs.Checks.{blockRefusal, strategyCovered, trellisRoom, beamRoom};
+ghost use Rattle.block.specs.Checks.{blockRefusal, strategyCovered, enoughRoom};
 ghost use Rattle.candidates.specs.Candidates.{isCurrent};
 ghost use Rattle.candidates.specs.Nearest.{isIdeal};
 ghost use Rattle.prices.specs.Checks.{each};
 ghost use Rattle.scan.specs.Scan.{Perm, levelAt};
-ghost use Rattle.weights.specs.Window.{windowOf};
+ghost use Rattle.weights.specs.Window.{windowFor};
 ghost use Rattle.block_checks.specs.Parts.{formRefusal, contentRefusal};
 
 fn is_side(side: u32) -> bool
@@ -221,7 +221,7 @@ fn check_form(
     if bias.valid() { 0 } else { 10 }
 }
 
-// Checks 11 to 13.
+// Checks 11 to 13, in a window of at most `cap` positions.
 fn check_content(
     shape: Shape,
     settings: Settings,
@@ -231,9 +231,10 @@ fn check_content(
     source: &[f32],
     inv_qm: &[f32],
     levels: &[i32],
+    cap: usize,
 ) -> u32
     requires { ⌜ formRefusal (blockOf shape settings bias scale (now scan) (now source) (now «inv_qm») (now levels)) ≡ 0 ⌝ }
-    ensures { λ r. ⌜ r ≡ contentRefusal (windowOf (shape .cx * shape .cy)) (blockOf shape settings bias scale (now (scan .entry)) (now (source .entry)) (now («inv_qm» .entry)) (now (levels .entry))) ⌝ }
+    ensures { λ r. ⌜ r ≡ contentRefusal (windowFor cap (shape .cx * shape .cy)) (blockOf shape settings bias scale (now (scan .entry)) (now (source .entry)) (now («inv_qm» .entry)) (now (levels .entry))) ⌝ }
 {
     let covered = covered_blocks(shape.cx, shape.cy);
     if !scan::each_once(scan) {
@@ -242,7 +243,7 @@ fn check_content(
     if !levels_within(covered, scan, levels) {
         return 12;
     }
-    let window = weights::rdoq_window_len(covered);
+    let window = weights::window_under(cap, covered);
     if ideals_within(covered, window.length, scan, source, inv_qm, scale) {
         0
     } else {
@@ -250,7 +251,7 @@ fn check_content(
     }
 }
 
-// Checks 7 to 13 and 18: the number of the first that fails, or 0.
+// Checks 7 to 13 and 18, in a window of at most `cap` positions: the number of the first that fails, or 0.
 pub fn check_block(
     shape: Shape,
     settings: Settings,
@@ -260,32 +261,44 @@ pub fn check_block(
     source: &[f32],
     inv_qm: &[f32],
     levels: &[i32],
+    cap: usize,
 ) -> u32
-    ensures { λ r. ⌜ (let b = blockOf shape settings bias scale (now (scan .entry)) (now (source .entry)) (now («inv_qm» .entry)) (now (levels .entry)) in r ≡ blockRefusal (windowOf (covered b)) b 0) ⌝ }
+    ensures { λ r. ⌜ (let b = blockOf shape settings bias scale (now (scan .entry)) (now (source .entry)) (now («inv_qm» .entry)) (now (levels .entry)) in r ≡ blockRefusal (windowFor cap (covered b)) b 0) ⌝ }
 {
     let first = check_form(shape, settings, bias, scale, scan, source, inv_qm, levels);
     if first != 0 {
         return first;
     }
-    check_content(shape, settings, bias, scale, scan, source, inv_qm, levels)
+    check_content(
+        shape,
+        settings,
+        bias,
+        scale,
+        scan,
+        source,
+        inv_qm,
+        levels,
+        cap,
+    )
 }
 
-// Check 14 of the trellis: 28 choice bytes a window position, and 28 costs in each row.
-pub fn trellis_room(window: usize, choices: usize, row_a: usize, row_b: usize) -> bool
-    ensures { λ r. ⌜ r ≡ trellisRoom 6 window choices «row_a» «row_b» ⌝ }
+// Check 14: `bytes` choice bytes a window position, and `floats` costs in each row.
+pub fn enough_room(
+    bytes: usize,
+    floats: usize,
+    window: usize,
+    choices: usize,
+    row_a: usize,
+    row_b: usize,
+) -> bool
+    requires { ⌜ (bytes ≤ 64) × (window ≤ 1024) ⌝ }
+    ensures { λ r. ⌜ r ≡ enoughRoom bytes floats window choices «row_a» «row_b» ⌝ }
 {
-    if window > choices / 28 {
+    if bytes * window > choices {
         return false;
     }
-    if row_a < 28 {
+    if row_a < floats {
         return false;
     }
-    row_b >= 28
-}
-
-// Check 14 of the beam: 6 choice bytes a window position.
-pub fn beam_room(window: usize, choices: usize) -> bool
-    ensures { λ r. ⌜ r ≡ beamRoom window choices ⌝ }
-{
-    window <= choices / 6
+    row_b >= floats
 }

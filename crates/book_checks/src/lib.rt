@@ -7,7 +7,7 @@ ghost use Rattle.prices.specs.Book.{bookOf, clusterValid};
 ghost use Rattle.prices.specs.Checks.{each, symbolPrice, mapBelow, allPriced, firstTwo, fillRefusal, bookRefusal};
 
 // Check 3: the largest entry is below the number of clusters. (A maximum needs no early exit, so the loop is vectorised.)
-fn map_below(map: &[u8], clusters: u32) -> bool
+pub fn map_below(map: &[u8], clusters: u32) -> bool
     requires { ⌜ 1 ≤ clusters ⌝ }
     ensures { λ r. ⌜ r ≡ mapBelow clusters (now (map .entry)) ⌝ }
 {
@@ -28,7 +28,7 @@ fn larger(a: u8, b: u8) -> u8
 }
 
 // Check 4.
-fn configs_valid(configs: &[u8], clusters: usize) -> bool
+pub fn configs_valid(configs: &[u8], clusters: usize) -> bool
     requires { ⌜ length (now configs) ≡ 3 * clusters ⌝ }
     ensures { λ r. ⌜ r ≡ each clusters (clusterValid (now (configs .entry))) ⌝ }
 {

@@ -249,10 +249,9 @@ fn prefix_codes(map: &[u8]) {
 }
 
 // Strict, two clusters: context 0 lies in one where symbol 1 alone has a word, context 1 in one where no symbol has.
-fn untrained_cluster(map: &mut [u8])
-    requires { ⌜ 14850 ≡ length (now map) ⌝ }
-    ensures { λ r. ⌜ 14850 ≡ length (now (map .exit)) ⌝ }
-{
+fn untrained_cluster() {
+    let mut map = zero_map();
+    map[1] = 1;
     let configs: [u8; 6] = [4, 2, 0, 4, 2, 0];
     let mut depths: [u8; 256] = [0; 256];
     depths[1] = 3;
@@ -260,17 +259,15 @@ fn untrained_cluster(map: &mut [u8])
     let mut symbols: [f32; 256] = [1.0; 256];
     let mut ready: [f32; 512] = [0.0; 512];
     prefix_symbol_bits(2, &depths, &singles, true, &mut symbols);
-    map[1] = 1;
-    fill_ready(2, map, &configs, &symbols, &mut ready);
+    fill_ready(2, &map, &configs, &symbols, &mut ready);
     say_pair(
         b"strict, value 0 in a cluster with a word and in one without: ",
-        token_bits_pair(2, map, &configs, &symbols, &ready, 0, 0),
+        token_bits_pair(2, &map, &configs, &symbols, &ready, 0, 0),
     );
     say_pair(
         b"strict, value 1 in a cluster with a word and in one without: ",
-        token_bits_pair(2, map, &configs, &symbols, &ready, 0, 1),
+        token_bits_pair(2, &map, &configs, &symbols, &ready, 0, 1),
     );
-    map[1] = 0;
 }
 
 // Every symbol price is 1.
@@ -342,7 +339,7 @@ fn main() {
     ready_without_words(&map);
     all_lengths(&map);
     prefix_codes(&map);
-    untrained_cluster(&mut map);
+    untrained_cluster();
     prices(&map);
     split_prices(&map);
     short_map(&map);

@@ -1,5 +1,4 @@
 // The leaf calls, for programs in C and in other languages that call C. `include/rdoq.h` declares them.
-use answers::answer::OUTSIDE;
 use bias::DequantBias;
 use c_answers::tell_lengths;
 use c_answers::tell_number;
@@ -9,11 +8,10 @@ use packing::HybridUintConfig;
 ghost use mathlib.Core.Path.{_≡_};
 ghost use Rattle.token_calls.specs.Contexts.{blockContextReply, nonZeroContextReply, offsetReply, zeroDensityReply};
 ghost use Rattle.level_calls.specs.Dequant.{levelReply};
-ghost use Rattle.level_calls.specs.Levels.{candidatesReply};
 ghost use Rattle.token_calls.specs.Tokens.{packReply, splitReply};
 ghost use Rattle.level_calls.specs.Weighing.{lambdaReply, chromaReply, distortionReply, windowReply};
 ghost use Rattle.c_answers.specs.Parts.{biasOf, configOf};
-ghost use Rattle.c_answers.specs.Told.{numberCode, numberAfter, listedCode, levelsAfter, listedCountAfter, realCode, realAfter, tokenCode, symbolAfter, extraAfter, bitsAfter, lengthsCode, lengthAfter, restoringAfter};
+ghost use Rattle.c_answers.specs.Told.{numberCode, numberAfter, realCode, realAfter, tokenCode, symbolAfter, extraAfter, bitsAfter, lengthsCode, lengthAfter, restoringAfter};
 
 // Writes the packed form of a level.
 #[no_mangle]
@@ -198,35 +196,4 @@ pub extern "C" fn rdoq_window_len(
         length,
         restoring,
     )
-}
-
-// Writes the levels that may be picked for a coefficient, and how many there are. Past the count stands 0, or where the level may be restored the current level.
-// Asks for room for five levels.
-#[no_mangle]
-pub extern "C" fn rdoq_candidates(
-    ideal: f32,
-    current: i32,
-    restore: bool,
-    levels: &mut [i32],
-    count: &mut u32,
-) -> u32
-    ensures { λ r. ⌜ r ≡ listedCode (candidatesReply ideal current restore) (now (levels .entry)) ⌝ }
-    ensures { λ _. ⌜ now (levels .exit) ≡ levelsAfter (candidatesReply ideal current restore) (now (levels .entry)) ⌝ }
-    ensures { λ _. ⌜ now (count .exit) ≡ listedCountAfter (candidatesReply ideal current restore) (now (levels .entry)) (now (count .entry)) ⌝ }
-{
-    if levels.len() != 5 {
-        return OUTSIDE;
-    }
-    let found = level_calls::levels::rdoq_candidates(ideal, current, restore);
-    let five = found.levels;
-    let answer = found.answer;
-    let code = tell_number(answer, count);
-    if code == 0 {
-        levels[0] = five[0];
-        levels[1] = five[1];
-        levels[2] = five[2];
-        levels[3] = five[3];
-        levels[4] = five[4];
-    }
-    code
 }

@@ -1,17 +1,19 @@
 -- What the exported search returns, and what every lent variable and buffer holds afterwards. Assumes nothing.
-use Prim.Native.Nat.{ℕ}
+use Prim.Native.Nat.{ℕ, _≤_}
 use mathlib.Core.Path.{_≡_}
 use mathlib.Core.Bool.{cond}
 use mathlib.Core.List.{List}
 use lib.Dec.{eqb, leb}
 use lib.IntN.{ℤ}
 use lib.Ieee.{Float}
-use Rattle.block.specs.Block.{Block}
+use Rattle.block.specs.Band.{halfWidth}
+use Rattle.block.specs.Block.{Block, covered}
 use Rattle.block.specs.Outcome.{Lent, Result}
 use Rattle.prices.specs.Book.{Book}
-use Rattle.searches.specs.Outcome.{searchOutcome}
+use Rattle.searches.specs.Outcome.{Demanded, searchOutcome}
 use Rattle.searches.specs.declared.Search.{Search}
 use Rattle.searches.specs.declared.Search.the-variants.{Greedy, Beam, Trellis}
+use Rattle.weights.specs.Window.{windowOf}
 use Rattle.c_answers.specs.Told.{answerCode, costAfter, countAfter}
 
 -- the code, the caller's two variables, and the buffers
@@ -33,11 +35,20 @@ unfoldable pub told : Result → Float → ℕ → Reply
 told result cost count =
     replyOf (answerCode (result .answer)) (costAfter (result .answer) cost) (countAfter (result .answer) count) (result .lent)
 
+-- a search of document 01's band and window
+abbrev pub outcomeNamed : Search → Book → Block → Lent → Result
+outcomeNamed search book b l = searchOutcome halfWidth (windowOf (covered b)) search book b l
+
 -- a number that names no search gets 17, and nothing changes
 unfoldable pub blockReply : ℕ → Book → Block → Lent → Float → ℕ → Reply
-blockReply search book b l cost count =
-    cond (leb search 2) (told (searchOutcome (searchNamed search) book b l) cost count) (replyOf 17 cost count l)
+blockReply search book b l cost count = cond (leb search 2) (told (outcomeNamed (searchNamed search) book b l) cost count) (replyOf 17 cost count l)
 
--- a refused block keeps every level
-abbrev pub RefusedKeeps : ℕ → List ℤ → List ℤ → Type 0
-RefusedKeeps code before after = (code ≡ 0 → ⊥) → after ≡ before
+-- What a call promises: `after` is its code, the caller's two variables and what it leaves.
+pub record Promised (search : ℕ) (book : Book) (b : Block) (before : Lent) (cost : Float) (count : ℕ) (after : Reply) : Type 0 where
+  -- the code, the variables and every buffer
+  pub reply : after ≡ blockReply search book b before cost count
+  -- what the answer told means of the levels that are left: demand 3 of the trellis, and the like of the other searches
+  pub demanded : search ≤ 2
+      → Demanded halfWidth (windowOf (covered b)) (searchNamed search) book b before (after .lent .levels) (outcomeNamed (searchNamed search) book b before .answer)
+  -- a refused block keeps every level
+  pub keeps : (after .code ≡ 0 → ⊥) → after .lent .levels ≡ before .levels

@@ -1,4 +1,6 @@
 // The searches, for programs in C and in other languages that call C. `include/rdoq.h` declares their call.
+pub mod candidates;
+
 use bias::DequantBias;
 use block::Shape;
 use c_answers::tell_answer;
@@ -9,7 +11,7 @@ ghost use Rattle.block.specs.Block.{blockOf};
 ghost use Rattle.block.specs.Outcome.{lentOf};
 ghost use Rattle.prices.specs.Book.{bookOf};
 ghost use Rattle.c_answers.specs.Parts.{shapeOf, settingsOf, biasOf};
-ghost use Rattle.c_search.specs.Search.{RefusedKeeps, blockReply, replyOf, searchNamed};
+ghost use Rattle.c_search.specs.Search.{Promised, replyOf, searchNamed};
 
 // The code for a number that names no search.
 pub const NO_SEARCH: u32 = 17;
@@ -59,8 +61,12 @@ pub extern "C" fn rdoq_block(
     cost: &mut f32,
     count: &mut u32,
 ) -> u32
-    ensures { λ r. ⌜ replyOf r (now (cost .exit)) (now (count .exit)) (lentOf (now (levels .exit)) (now (choices .exit)) (now («row_a» .exit)) (now («row_b» .exit))) ≡ blockReply search (bookOf clusters (now (map .entry)) (now (configs .entry)) (now (symbols .entry)) (now (ready .entry))) (blockOf (shapeOf cx cy strategy channel «qf_hi» predicted) (settingsOf «channel_weight» lambda penalty distance) (biasOf one numerator) scale (now (scan .entry)) (now (source .entry)) (now («inv_qm» .entry)) (now (levels .entry))) (lentOf (now (levels .entry)) (now (choices .entry)) (now («row_a» .entry)) (now («row_b» .entry))) (now (cost .entry)) (now (count .entry)) ⌝ }
-    ensures { λ r. ⌜ RefusedKeeps r (now (levels .entry)) (now (levels .exit)) ⌝ }
+    ensures { λ r. ⌜ Promised search
+        (bookOf clusters (now (map .entry)) (now (configs .entry)) (now (symbols .entry)) (now (ready .entry)))
+        (blockOf (shapeOf cx cy strategy channel «qf_hi» predicted) (settingsOf «channel_weight» lambda penalty distance) (biasOf one numerator) scale
+        (now (scan .entry)) (now (source .entry)) (now («inv_qm» .entry)) (now (levels .entry)))
+        (lentOf (now (levels .entry)) (now (choices .entry)) (now («row_a» .entry)) (now («row_b» .entry))) (now (cost .entry)) (now (count .entry))
+        (replyOf r (now (cost .exit)) (now (count .exit)) (lentOf (now (levels .exit)) (now (choices .exit)) (now («row_a» .exit)) (now («row_b» .exit)))) ⌝ }
 {
     if search > 2 {
         return NO_SEARCH;

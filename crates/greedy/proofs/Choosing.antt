@@ -11,19 +11,16 @@ use lib.Dec.{eqb, ltb}
 use lib.IntN.{ℤ}
 use lib.ListN.{length, length-set}
 use lib.Ieee.{Float, inf, lt}
-use Rattle.block.specs.Band.{halfWidth, inputAfter, pastWindow}
+use Rattle.block.specs.Band.{halfWidth, inputAfter}
 use Rattle.block.specs.Block.{Block, withLevels, covered, inputAt, inputRemaining, nonzerosAmong, ideal, candidatesAt}
-use Rattle.block.specs.Choice.{windowLevels, IsChoice}
-use Rattle.block.specs.Checks.{searchRefusal}
+use Rattle.block.specs.Choice.{IsChoice}
+use Rattle.block.specs.Checks.{blockRefusal}
 use Rattle.block.specs.Cost.{firstPrev}
 use Rattle.block.specs.Outcome.{RefusedKeeps}
-use Rattle.block.specs.declared.Answer.{Answer}
 use Rattle.block.specs.declared.Answer.the-variants.{Count, Refused}
 use Rattle.block_checks.specs.Passed.{Passed}
-use Rattle.block_checks.proofs.Laws.{passed}
 use Rattle.candidates.proofs.Laws.{Listed, candidates-listed}
 use Rattle.greedy_cost.specs.Run.{runStart}
-use Rattle.least_cost.specs.Choice.{remaining}
 use Rattle.least_cost.specs.Position.{nz}
 use Rattle.least_cost.specs.Search.{holder}
 use Rattle.prices.specs.Book.{Book}
@@ -31,9 +28,10 @@ use Rattle.problem.proofs.Refusals.{searched}
 use Rattle.problem.proofs.Written.{is-choice}
 use Rattle.scan.specs.Scan.{Perm, levelAt}
 use Rattle.scan.proofs.Through.{level-same, level-other}
-use Rattle.weights.specs.Window.{windowOf}
+use Rattle.weights.specs.Window.{windowFor}
 use Rattle.weights.specs.declared.Window.{Window}
-use Rattle.greedy.specs.Greedy.{Outcome, othersOf, greedyCost, stays, chosen, settledAt, settledFrom, greedyLevels, greedyOutcome, CountAnswered}
+use Rattle.weights.proofs.Lengths.{whole-window}
+use Rattle.greedy.specs.Greedy.{Outcome, othersOf, greedyCost, stays, chosen, settledAt, settledFrom, greedyLevels, outcomeOf, refusal, greedyOutcome, CountAnswered, PromisedIn, Promised}
 use Rattle.steps.proofs.Ordered.{among-split}
 
 -- ---- the first least is listed where the level to fall back on is
@@ -111,39 +109,44 @@ greedy-choice w v book b a =
     own : (i : ℕ) → i < v .length → Mem (inputAt b (covered b + i)) (candidatesAt v b i)
     own i h = first-listed _ _ (candidates-listed (ideal b i) (inputAt b (covered b + i)) (ltb i (v .restoring)) (a .ideals i h) (a .current (covered b + i) (omega arith) (omega (arith, a .window .fits))))
 
--- ---- the same of what the call leaves and answers, where it refuses nothing
-pub greedy-answers : (w : ℕ) (book : Book) (b : Block) → searchRefusal book b true ≡ 0
-    → IsChoice w (windowOf (covered b)) book b (greedyOutcome book b .levels)
-    × (greedyOutcome book b .answer ≡ Count (remaining (pastWindow (windowOf (covered b)) b) (windowLevels (windowOf (covered b)) b (greedyOutcome book b .levels))))
-unfolding greedyOutcome
-greedy-answers w book b e =
-    let choice = greedy-choice w (windowOf (covered b)) book b (passed b (searched book b true e .1 .0)) in
-    rw (eq-eqb (searchRefusal book b true) 0 e) (choice, ap Count (sym (choice .count)))
+-- ---- whatever equals the outcome meets the whole contract
+block-passes : (v : Window) (book : Book) (b : Block) → refusal v book b ≡ 0 → blockRefusal v b 0 ≡ 0
+unfolding refusal
+block-passes v book b e = searched v book b true e .1 .0
 
--- whatever equals the outcome meets the whole contract
-pub promised : (book : Book) (b : Block) {answer : Answer} {levels : List ℤ} → (answer ≡ greedyOutcome book b .answer) × (levels ≡ greedyOutcome book b .levels)
-    → (answer ≡ greedyOutcome book b .answer) × ((levels ≡ greedyOutcome book b .levels) × (CountAnswered book b levels answer × RefusedKeeps b levels answer))
+pub promised : (v : Window) (book : Book) (b : Block) → (blockRefusal v b 0 ≡ 0 → Passed v b) → {after : Outcome} → after ≡ greedyOutcome v book b → PromisedIn v book b after
 unfolding greedyOutcome
-promised book b {answer} {levels} e = (e .0, (e .1, go (eqb (searchRefusal book b true) 0) refl e))
+promised v book b within e =
+    record {
+      outcome = e;
+      counted = subst⁻¹ (λ (r : Outcome). CountAnswered v book b (r .levels) (r .answer)) e (both .0);
+      keeps = subst⁻¹ (λ (r : Outcome). RefusedKeeps b (r .levels) (r .answer)) e (both .1);
+    }
   where
-    go : (t : Bool) → eqb (searchRefusal book b true) 0 ≡ t
-        → (answer ≡ cond {A = Outcome} t (record { answer = Count (inputRemaining (withLevels b (greedyLevels (windowOf (covered b)) book b)) (covered b)); levels = greedyLevels (windowOf (covered b)) book b }) (record { answer = Refused (searchRefusal book b true); levels = b .levels }) .answer)
-        × (levels ≡ cond {A = Outcome} t (record { answer = Count (inputRemaining (withLevels b (greedyLevels (windowOf (covered b)) book b)) (covered b)); levels = greedyLevels (windowOf (covered b)) book b }) (record { answer = Refused (searchRefusal book b true); levels = b .levels }) .levels)
-        → CountAnswered book b levels answer × RefusedKeeps b levels answer
-    go true h f = (
+    go : (t : Bool) → eqb (refusal v book b) 0 ≡ t
+        → CountAnswered v book b (cond t (outcomeOf (Count (inputRemaining (withLevels b (greedyLevels v book b)) (covered b))) (greedyLevels v book b)) (outcomeOf (Refused (refusal v book b)) (b .levels)) .levels) (cond t (outcomeOf (Count (inputRemaining (withLevels b (greedyLevels v book b)) (covered b))) (greedyLevels v book b)) (outcomeOf (Refused (refusal v book b)) (b .levels)) .answer)
+        × RefusedKeeps b (cond t (outcomeOf (Count (inputRemaining (withLevels b (greedyLevels v book b)) (covered b))) (greedyLevels v book b)) (outcomeOf (Refused (refusal v book b)) (b .levels)) .levels) (cond t (outcomeOf (Count (inputRemaining (withLevels b (greedyLevels v book b)) (covered b))) (greedyLevels v book b)) (outcomeOf (Refused (refusal v book b)) (b .levels)) .answer)
+    go true h = (
       λ n k.
-          let count : n ≡ inputRemaining (withLevels b (greedyLevels (windowOf (covered b)) book b)) (covered b) = cc in
-          (subst⁻¹ (IsChoice halfWidth (windowOf (covered b)) book b) (f .1) (greedy-choice halfWidth (windowOf (covered b)) book b (passed b (searched book b true (eqb-true _ 0 h) .1 .0))), count ∙ ap (λ (y : List ℤ). inputRemaining (withLevels b y) (covered b)) (sym (f .1))),
+          let count : n ≡ inputRemaining (withLevels b (greedyLevels v book b)) (covered b) = cc in
+          (greedy-choice halfWidth v book b (within (block-passes v book b (eqb-true _ 0 h))), count),
       λ n k.
           let bad : _≡_ {A = ℕ} 0 1 = cc in
           absurd (omega arith),
     )
-    go false h f = (
+    go false h = (
       λ n k.
           let bad : _≡_ {A = ℕ} 0 1 = cc in
           absurd (omega arith),
-      λ n k. f .1,
+      λ n k. refl,
     )
+
+    both : CountAnswered v book b (greedyOutcome v book b .levels) (greedyOutcome v book b .answer) × RefusedKeeps b (greedyOutcome v book b .levels) (greedyOutcome v book b .answer)
+    both = go (eqb (refusal v book b) 0) refl
+
+-- document 01's window
+pub whole : {book : Book} {b : Block} {r : Outcome} → PromisedIn (windowFor 1024 (covered b)) book b r → Promised book b r
+whole {book} {b} {r} P = subst (λ (v : Window). PromisedIn v book b r) (whole-window (covered b)) P
 
 -- ---- `prev` of a run's first zero is 1 at the first position too: where no nonzero level stands behind the run, the whole count is 1
 all-zero : (scan : List ℕ) (levels : List ℤ) (c i : ℕ) → runStart scan levels c i ≡ 0 → nonzerosAmong scan levels c i ≡ 0

@@ -29,7 +29,7 @@ use Rattle.steps.specs.declared.reading.Plan.{Plan}
 use Rattle.steps.specs.declared.reading.Offer.{Offer}
 use Rattle.steps.proofs.Counting.{among-most}
 use Rattle.steps.proofs.Ordered.{among-split}
-use Rattle.weights.specs.Window.{windowOf}
+use Rattle.weights.specs.declared.Window.{Window}
 use Rattle.greedy.specs.Greedy.{othersOf, frontOf, runOf, greedyCost, stays, chosen}
 use Rattle.greedy.specs.Reading.{Fitting, Ready, countFrom}
 
@@ -143,20 +143,20 @@ pub inputs : {b : Block} {p : Plan} {scan : List ℕ} {source inverse : List Flo
 unfolding inputAt
 inputs i l w = rw (l .scan-is, l .levels-is, w .covered-is)
 
-module _ (book : Book) {b : Block} {i : ℕ} {offer : Offer} {levels : List ℤ} (s : Offered b i offer levels) (u : Usable (inArray (offer .count) levels)) {current : ℤ} (ec : current ≡ inputAt b (covered b + i))
+module _ (book : Book) {v : Window} {b : Block} {i : ℕ} {offer : Offer} {levels : List ℤ} (s : Offered v b i offer levels) (u : Usable (inArray (offer .count) levels)) {current : ℤ} (ec : current ≡ inputAt b (covered b + i))
     {later : ℕ} (e : later ≡ inputAfter b i) {t : Bool} (et : t ≡ (eqb (offer .count) 1 || (eqb (nz current) 0 && eqb later 0))) where
-  stays-is : t ≡ stays (windowOf (covered b)) b i
+  stays-is : t ≡ stays v b i
   unfolding stays
   stays-is =
-      let many : offer .count ≡ length (candidatesAt (windowOf (covered b)) b i) = sym (listed-length u) ∙ ap length (s .listed-is) in
+      let many : offer .count ≡ length (candidatesAt v b i) = sym (listed-length u) ∙ ap length (s .listed-is) in
       cc
 
-  pub chosen-stays : t ≡ true → current ≡ chosen (windowOf (covered b)) book b i
+  pub chosen-stays : t ≡ true → current ≡ chosen v book b i
   unfolding chosen
   chosen-stays it = rw (sym stays-is ∙ it) ec
 
   pub chosen-least : {others front : ℕ} {run : Float} {r : ℤ} → t ≡ false → others ≡ othersOf b i → front ≡ frontOf b i → run ≡ runOf book b i
-      → r ≡ holder (costOf book b i later others front run) (inf false) current (listed (inArray (offer .count) levels)) → r ≡ chosen (windowOf (covered b)) book b i
+      → r ≡ holder (costOf book b i later others front run) (inf false) current (listed (inArray (offer .count) levels)) → r ≡ chosen v book b i
   unfolding chosen greedyCost
   chosen-least it eo ef er eh =
       let cands = s .listed-is in

@@ -1,32 +1,36 @@
 -- The pass over the whole window, and what the call answers. Assumes nothing.
-use mathlib.Core.Path.{_≡_, refl, ap, _∙_}
+use mathlib.Core.Path.{_≡_, refl, ap, _∙_, subst⁻¹}
 use mathlib.Core.Bool.{true}
 use mathlib.Core.List.{List}
-use Prim.Native.Nat.{ℕ, suc, _+_, _-_, _*_, _≤_, _<_, min}
+use Prim.Native.Nat.{ℕ, suc, _+_, _-_, _*_, _≤_, _<_}
 use native.Mathlib.Omega.{arith}
-use native.Mathlib.Nat.{le-refl, le-trans, min-le-left, min-le-right}
-use lib.Dec.{lit≤}
+use native.Mathlib.Nat.{le-refl, le-trans, zero-mul}
+use lib.Dec.{leb}
 use lib.IntN.{ℤ}
 use lib.ListN.{length}
 use lib.Ieee.{Float}
 use borrow.Author.Tests.{eq-eqb, ne-eqb}
 use Rattle.block.specs.Block.{Block, covered, inputAt, inputRemaining, ideal, nonzerosAmong, withLevels}
-use Rattle.block.specs.Checks.{blockRefusal, searchRefusal}
+use Rattle.block.specs.Checks.{searchRefusal, enoughRoom}
 use Rattle.block.specs.declared.Answer.the-variants.{Count, Refused}
 use Rattle.block_checks.specs.Passed.{Passed}
-use Rattle.block_checks.proofs.Laws.{refused-room}
+use Rattle.block_checks.proofs.Laws.{passed}
 use Rattle.prices.specs.Book.{Book}
 use Rattle.prices.specs.Checks.{bookRefusal}
+use Rattle.problem.proofs.Refusals.{searched}
 use Rattle.scan.specs.Scan.{Perm}
+use Rattle.search_checks.specs.Checked.{Checked}
+use Rattle.search_checks.proofs.Checked.{base-short}
 use Rattle.steps.proofs.Counting.{among-most}
 use Rattle.steps.proofs.Ordered.{among-split}
 use Rattle.steps.proofs.Plans.{planned-lists}
-use Rattle.steps.specs.Plan.{Planned, Lists}
+use Rattle.search_checks.proofs.Refusing.{no-rows}
+use Rattle.steps.specs.Plan.{Planned, Coded, Lists}
 use Rattle.steps.specs.declared.reading.Plan.{Plan}
-use Rattle.weights.specs.Window.{windowOf, baseLen}
+use Rattle.weights.specs.Window.{windowFor}
 use Rattle.weights.specs.declared.Window.{Window}
 use Rattle.greedy.specs.declared.pass.Counts.{Counts}
-use Rattle.greedy.specs.Greedy.{settledAt, settledFrom, greedyLevels, greedyOutcome}
+use Rattle.greedy.specs.Greedy.{settledAt, settledFrom, greedyLevels, outcomeOf, refusal, greedyOutcome}
 use Rattle.greedy.specs.Reading.{Fitting, Ready, countFrom}
 
 -- ---- the counts at the window's end
@@ -61,7 +65,7 @@ pub record SoFar (p : Plan) (book : Book) (scan : List ℕ) (source inverse : Li
   pub ready : Ready p scan source inverse levels (p .covered + i)
   pub later : counts .later ≡ countFrom scan levels (p .covered) (p .covered + i)
   pub total : counts .total ≡ countFrom scan levels (p .covered) (p .covered)
-  pub rest : (b : Block) → Lists b scan source inverse first → Planned b p → settledFrom (windowOf (covered b)) book i (withLevels b levels) ≡ settledFrom (windowOf (covered b)) book (p .window .length) b
+  pub rest : (b : Block) → Lists b scan source inverse first → Planned b p → settledFrom (p .window) book i (withLevels b levels) ≡ settledFrom (p .window) book (p .window .length) b
 
 module _ {p : Plan} (book : Book) {scan : List ℕ} {source inverse : List Float} {first : List ℤ} where
   pub so-far-none : {counts : Counts} → Fitting p → Ready p scan source inverse first (64 * p .covered) → counts .later ≡ countFrom scan first (p .covered) (p .covered + p .window .length)
@@ -72,7 +76,7 @@ module _ {p : Plan} (book : Book) {scan : List ℕ} {source inverse : List Float
         ready = ready-less (f .window) r;
         later = el;
         total = et;
-        rest = λ b l w. ap (λ (x : List ℤ). settledFrom (windowOf (covered b)) book (p .window .length) (withLevels b x)) (l .levels-is);
+        rest = λ b l w. ap (λ (x : List ℤ). settledFrom (p .window) book (p .window .length) (withLevels b x)) (l .levels-is);
       }
 
   module _ {levels : List ℤ} {counts : Counts} {i : ℕ} (some : 0 < i) (s : SoFar p book scan source inverse first levels counts i) where
@@ -89,7 +93,7 @@ module _ {p : Plan} (book : Book) {scan : List ℕ} {source inverse : List Float
     next-later = rw next (s .later)
 
     pub so-far-more : {levels' : List ℤ} {counts' : Counts}
-        → ((b : Block) → Lists b scan source inverse levels → Planned b p → levels' ≡ settledAt (windowOf (covered b)) book b (i - 1))
+        → ((b : Block) → Lists b scan source inverse levels → Planned b p → levels' ≡ settledAt (p .window) book b (i - 1))
         → Ready p scan source inverse levels' (p .covered + (i - 1)) → counts' .later ≡ countFrom scan levels' (p .covered) (p .covered + (i - 1)) → counts' .total ≡ countFrom scan levels' (p .covered) (p .covered)
         → SoFar p book scan source inverse first levels' counts' (i - 1)
     unfolding settledFrom covered
@@ -103,54 +107,79 @@ module _ {p : Plan} (book : Book) {scan : List ℕ} {source inverse : List Float
           rest = λ b l w.
               let wrote = step (withLevels b levels) (record { scan-is = l .scan-is; source-is = l .source-is; inverse-is = l .inverse-is; levels-is = refl }) (planned-with w levels) in
               let old = rw before at (s .rest b l w) in
-              ap (λ (x : List ℤ). settledFrom (windowOf (covered b)) book (i - 1) (withLevels b x)) wrote ∙ old;
+              ap (λ (x : List ℤ). settledFrom (p .window) book (i - 1) (withLevels b x)) wrote ∙ old;
         }
 
   pub so-far-all : {levels : List ℤ} {counts : Counts} {i : ℕ} → i ≤ 0 → SoFar p book scan source inverse first levels counts i
-      → (b : Block) → Lists b scan source inverse first → Planned b p → levels ≡ greedyLevels (windowOf (covered b)) book b
+      → (b : Block) → Lists b scan source inverse first → Planned b p → levels ≡ greedyLevels (p .window) book b
   unfolding settledFrom greedyLevels
   so-far-all {levels} {counts} {i} h s b l w =
       let none : i ≡ 0 = omega arith in
-      rw none at (s .rest b l w) ∙ ap (λ (v : Window). settledFrom (windowOf (covered b)) book (v .length) b) (w .window-is)
+      rw none at (s .rest b l w)
 
 -- ---- the call
-pub own-lists : (b : Block) → Lists b (b .scan) (b .source) (b .inverse) (b .levels)
-own-lists b = record { scan-is = refl; source-is = refl; inverse-is = refl; levels-is = refl }
-
-small-base : (c : ℕ) → baseLen c ≤ 1024
-small-base c = le-trans (min-le-left (min (24 * c) 64) (63 * c)) (le-trans (min-le-right (24 * c) 64) (lit≤ tt))
-
-module _ {b : Block} {p : Plan} (a : Passed (windowOf (covered b)) b) (w : Planned b p) where
+module _ {book : Book} {b : Block} {p : Plan} (K : Checked book b p) where
   pub fitting-of : Fitting p
   fitting-of =
       record {
-        some = rw (w .covered-is) (a .some);
-        most = rw (w .covered-is) (a .most);
-        base = rw (w .base-is) (small-base (covered b));
-        window = rw (w .covered-is, w .window-is) (a .window .fits);
+        some = rw (K .planned .covered-is) (K .passed .some);
+        most = rw (K .planned .covered-is) (K .passed .most);
+        base = base-short K;
+        window = rw (K .planned .covered-is) (K .passed .window .fits);
       }
 
   pub ready-of : Ready p (b .scan) (b .source) (b .inverse) (b .levels) (64 * p .covered)
   unfolding inputAt ideal
   ready-of =
+      let w = K .planned in
+      let a = K .passed in
       record {
         scanned = rw (w .covered-is) (a .scanned);
         sourced = rw (w .covered-is) (a .source-long);
         inverted = rw (w .covered-is) (a .inverse-long);
         levelled = rw (w .covered-is) (a .levels-long);
         current = λ k l m. a .current k (rw (w .covered-is) at l) (rw (w .covered-is) at m);
-        ideals = λ i h. rw (w .covered-is, w .source-is) (a .ideals i (rw (w .window-is) at h));
+        ideals = λ i h. rw (w .covered-is, w .source-is) (a .ideals i h);
       }
 
-module _ (book : Book) (b : Block) where
-  pub refused-outcome : {n : ℕ} → n ≡ searchRefusal book b true → (n ≡ 0 → ⊥) → (Refused n ≡ greedyOutcome book b .answer) × (b .levels ≡ greedyOutcome book b .levels)
+module _ (v : Window) (book : Book) (b : Block) where
+  pub refused-outcome : {n : ℕ} → n ≡ refusal v book b → (n ≡ 0 → ⊥) → outcomeOf (Refused n) (b .levels) ≡ greedyOutcome v book b
   unfolding greedyOutcome
-  refused-outcome e some = rw (ne-eqb (searchRefusal book b true) 0 (λ z. some (e ∙ z))) (ap Refused e, refl)
+  refused-outcome e some = rw (ne-eqb (refusal v book b) 0 (λ z. some (e ∙ z))) (ap (λ (m : ℕ). outcomeOf (Refused m) (b .levels)) e)
 
-  pub settled-outcome : {p : Plan} {levels : List ℤ} {count : ℕ} → bookRefusal book ≡ 0 → blockRefusal (windowOf (covered b)) b 0 ≡ 0 → Planned b p
-      → levels ≡ greedyLevels (windowOf (covered b)) book b → count ≡ countFrom (b .scan) levels (p .covered) (p .covered)
-      → (Count count ≡ greedyOutcome book b .answer) × (levels ≡ greedyOutcome book b .levels)
+  -- what the checks let pass
+  pub accepted-book : refusal v book b ≡ 0 → bookRefusal book ≡ 0
+  unfolding refusal
+  accepted-book e = searched v book b true e .0
+
+  pub settled-outcome : {p : Plan} {levels : List ℤ} {count : ℕ} → refusal v book b ≡ 0 → Planned b p → p .window ≡ v
+      → levels ≡ greedyLevels (p .window) book b → count ≡ countFrom (b .scan) levels (p .covered) (p .covered) → outcomeOf (Count count) levels ≡ greedyOutcome v book b
   unfolding greedyOutcome inputRemaining covered
-  settled-outcome {p} {levels} {count} ok passes w el ec =
-      let none : searchRefusal book b true ≡ 0 = refused-room book b true ok passes in
-      rw (eq-eqb (searchRefusal book b true) 0 none, ← el) (ap Count (ec ∙ rw (w .covered-is)), refl)
+  settled-outcome {p} {levels} {count} none w ev el ec =
+      let found : levels ≡ greedyLevels v book b = rw ev at el in
+      rw (eq-eqb (refusal v book b) 0 none, ← found) (ap (λ (n : ℕ). outcomeOf (Count n) levels) (ec ∙ rw (w .covered-is)))
+
+pub accepted-block : (cap : ℕ) (book : Book) (b : Block) → 0 < cap → refusal (windowFor cap (covered b)) book b ≡ 0 → Passed (windowFor cap (covered b)) b
+unfolding refusal
+accepted-block cap book b some e = passed cap b some (searched (windowFor cap (covered b)) book b true e .1 .0)
+
+pub by-check : (v : Window) (book : Book) (b : Block) {n : ℕ} → n ≡ searchRefusal v book b (enoughRoom 0 0 (v .length) 0 0 0) → n ≡ refusal v book b
+unfolding refusal
+by-check v book b e =
+    let none : enoughRoom 0 0 (v .length) 0 0 0 ≡ true = no-rows 0 (v .length) 0 0 0 ∙ ap (λ (n : ℕ). leb n 0) (zero-mul (v .length)) in
+    e ∙ ap (searchRefusal v book b) none
+
+-- a block that passed, and its plan
+pub checked-of : (cap : ℕ) (book : Book) (b : Block) → 0 < cap → refusal (windowFor cap (covered b)) book b ≡ 0 → {p : Plan} → Planned b p → Coded p → p .window ≡ windowFor cap (b .shape .cx * b .shape .cy) → Checked book b p
+unfolding covered
+checked-of cap book b some none planned coded ev =
+    record {
+      book-passed = accepted-book _ book b none;
+      passed = subst⁻¹ (λ (v : Window). Passed v b) ev (accepted-block cap book b some none);
+      planned = planned;
+      coded = coded;
+    }
+
+pub window-of : (cap : ℕ) (b : Block) {v : Window} → v ≡ windowFor cap (b .shape .cx * b .shape .cy) → v ≡ windowFor cap (covered b)
+unfolding covered
+window-of cap b e = e

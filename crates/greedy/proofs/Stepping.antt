@@ -15,7 +15,6 @@ use Rattle.scan.proofs.Through.{level-same, level-other}
 use Rattle.steps.specs.Plan.{Planned, Lists}
 use Rattle.steps.specs.declared.reading.Plan.{Plan}
 use Rattle.steps.proofs.Counting.{among-first}
-use Rattle.weights.specs.Window.{windowOf}
 use Rattle.greedy.specs.Greedy.{chosen, settledAt}
 use Rattle.greedy.specs.Reading.{Fitting, Ready, countFrom}
 use Rattle.greedy.proofs.Passing.{total-split}
@@ -72,7 +71,7 @@ module _ {p : Plan} {scan : List ℕ} {source inverse : List Float} {levels : Li
       let same = ap nz here in
       omega (arith, behind, front)
 
-  pub step-settled : (book : Book) (b : Block) → Lists b scan source inverse levels → Planned b p → q ≡ chosen (windowOf (covered b)) book b i → after ≡ settledAt (windowOf (covered b)) book b i
+  pub step-settled : (book : Book) (b : Block) → Lists b scan source inverse levels → Planned b p → q ≡ chosen (p .window) book b i → after ≡ settledAt (p .window) book b i
   unfolding settledAt
   step-settled book b l w eq =
       let cov = w .covered-is in

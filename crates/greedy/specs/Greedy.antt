@@ -12,6 +12,7 @@ use Rattle.block.specs.Band.{halfWidth, inputAfter}
 use Rattle.block.specs.Block.{Block, withLevels, covered, inputAt, inputRemaining, nonzerosAmong, candidatesAt}
 use Rattle.block.specs.Checks.{searchRefusal}
 use Rattle.block.specs.Choice.{IsChoice}
+use Rattle.block.specs.Outcome.{RefusedKeeps}
 use Rattle.block.specs.declared.Answer.{Answer}
 use Rattle.block.specs.declared.Answer.the-variants.{Count, Refused}
 use Rattle.greedy_cost.specs.Cost.{costOf}
@@ -71,16 +72,35 @@ pub record Outcome : Type 0 where
   pub answer : Answer
   pub levels : List ℤ
 
--- The count of nonzero levels from scan position c on; a refusal by one of checks 1 to 13 changes no level.
-unfoldable pub greedyOutcome : Book → Block → Outcome
-greedyOutcome book b =
-    let refusal = searchRefusal book b true in
-    let levels = greedyLevels (windowOf (covered b)) book b in
-    cond (eqb refusal 0)
-    (record { answer = Count (inputRemaining (withLevels b levels) (covered b)); levels = levels })
-    (record { answer = Refused refusal; levels = b .levels })
+abbrev pub outcomeOf : Answer → List ℤ → Outcome
+outcomeOf answer levels = record { answer = answer; levels = levels }
 
--- What an answered count says of the levels written: they are a choice, and the count is theirs.
-abbrev pub CountAnswered : Book → Block → List ℤ → Answer → Type 0
-CountAnswered book b written answer =
-    (count : ℕ) → answer ≡ Count count → IsChoice halfWidth (windowOf (covered b)) book b written × (count ≡ inputRemaining (withLevels b written) (covered b))
+-- the first of checks 1 to 13 that refuses; 0 where none does
+unfoldable pub refusal : Window → Book → Block → ℕ
+refusal v book b = searchRefusal v book b true
+
+-- The count of nonzero levels from scan position c on; a refusal by one of checks 1 to 13 changes no level.
+unfoldable pub greedyOutcome : Window → Book → Block → Outcome
+greedyOutcome v book b =
+    let levels = greedyLevels v book b in
+    cond (eqb (refusal v book b) 0)
+    (outcomeOf (Count (inputRemaining (withLevels b levels) (covered b))) levels)
+    (outcomeOf (Refused (refusal v book b)) (b .levels))
+
+-- What an answered count says of the levels written: they are a choice, and the count is theirs. (A choice has no half-width: any will do.)
+abbrev pub CountAnswered : Window → Book → Block → List ℤ → Answer → Type 0
+CountAnswered v book b written answer =
+    (count : ℕ) → answer ≡ Count count → IsChoice halfWidth v book b written × (count ≡ inputRemaining (withLevels b written) (covered b))
+
+-- What greedy promises of a book and a block: `after` is its answer, and the levels that it leaves.
+pub record PromisedIn (v : Window) (book : Book) (b : Block) (after : Outcome) : Type 0 where
+  -- the answer and every level
+  pub outcome : after ≡ greedyOutcome v book b
+  -- the count is the levels'
+  pub counted : CountAnswered v book b (after .levels) (after .answer)
+  -- a refused block keeps every level
+  pub keeps : RefusedKeeps b (after .levels) (after .answer)
+
+-- with document 01's window
+abbrev pub Promised : Book → Block → Outcome → Type 0
+Promised book b after = PromisedIn (windowOf (covered b)) book b after

@@ -18,7 +18,6 @@ ghost use Rattle.prices.specs.Book.{bookOf};
 ghost use Rattle.prices.specs.Checks.{bookRefusal};
 ghost use Rattle.scan.specs.Scan.{Perm, levelAt};
 ghost use Rattle.steps.specs.Plan.{Planned, Coded, Lists};
-ghost use Rattle.weights.specs.Window.{windowOf};
 ghost use Rattle.greedy.specs.Greedy.{frontOf, runOf, chosen, settledAt, greedyLevels};
 ghost use Rattle.greedy.specs.Reading.{Fitting, Ready, countFrom};
 
@@ -102,7 +101,7 @@ fn choice(
     requires { ⌜ i < plan .window .length ⌝ }
     requires { ⌜ (counts .later ≡ countFrom (now scan) (now levels) (plan .covered) (plan .covered + i + 1)) × (counts .total ≡ countFrom (now scan) (now levels) (plan .covered) (plan .covered)) ⌝ }
     ensures { λ r. ⌜ ((b : Block) → Lists b (now (scan .entry)) (now (source .entry)) (now («inv_qm» .entry)) (now (levels .entry)) → Planned b plan
-        → r ≡ chosen (windowOf (coveredBy b)) (bookOf clusters (now (map .entry)) (now (configs .entry)) (now (symbols .entry)) (now (ready .entry))) b i) ⌝ }
+        → r ≡ chosen (plan .window) (bookOf clusters (now (map .entry)) (now (configs .entry)) (now (symbols .entry)) (now (ready .entry))) b i) ⌝ }
     ensures { λ r. ⌜ T (isLevel r) ⌝ }
 {
     let mut offered = [0i32; 5];
@@ -182,7 +181,7 @@ fn step(
     requires { ⌜ i < plan .window .length ⌝ }
     requires { ⌜ (counts .later ≡ countFrom (now scan) (now levels) (plan .covered) (plan .covered + i + 1)) × (counts .total ≡ countFrom (now scan) (now levels) (plan .covered) (plan .covered)) ⌝ }
     ensures { λ r. ⌜ ((b : Block) → Lists b (now (scan .entry)) (now (source .entry)) (now («inv_qm» .entry)) (now (levels .entry)) → Planned b plan
-        → now (levels .exit) ≡ settledAt (windowOf (coveredBy b)) (bookOf clusters (now (map .entry)) (now (configs .entry)) (now (symbols .entry)) (now (ready .entry))) b i) ⌝ }
+        → now (levels .exit) ≡ settledAt (plan .window) (bookOf clusters (now (map .entry)) (now (configs .entry)) (now (symbols .entry)) (now (ready .entry))) b i) ⌝ }
     ensures { λ r. ⌜ Ready plan (now (scan .entry)) (now (source .entry)) (now («inv_qm» .entry)) (now (levels .exit)) (plan .covered + i) ⌝ }
     ensures { λ r. ⌜ (r .later ≡ countFrom (now (scan .entry)) (now (levels .exit)) (plan .covered) (plan .covered + i)) × (r .total ≡ countFrom (now (scan .entry)) (now (levels .exit)) (plan .covered) (plan .covered)) ⌝ }
 {
@@ -240,7 +239,7 @@ pub(crate) fn settle(
     requires { ⌜ Fitting plan ⌝ }
     requires { ⌜ Ready plan (now scan) (now source) (now «inv_qm») (now levels) (64 * plan .covered) ⌝ }
     ensures { λ r. ⌜ ((b : Block) → Lists b (now (scan .entry)) (now (source .entry)) (now («inv_qm» .entry)) (now (levels .entry)) → Planned b plan
-        → now (levels .exit) ≡ greedyLevels (windowOf (coveredBy b)) (bookOf clusters (now (map .entry)) (now (configs .entry)) (now (symbols .entry)) (now (ready .entry))) b) ⌝ }
+        → now (levels .exit) ≡ greedyLevels (plan .window) (bookOf clusters (now (map .entry)) (now (configs .entry)) (now (symbols .entry)) (now (ready .entry))) b) ⌝ }
     ensures { λ r. ⌜ r ≡ countFrom (now (scan .entry)) (now (levels .exit)) (plan .covered) (plan .covered) ⌝ }
 {
     let window = plan.window;

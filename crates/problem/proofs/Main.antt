@@ -13,10 +13,8 @@ use Rattle.ac_context.specs.Contexts.{fineZeroDensityContextsOffset, zeroDensit
 use Rattle.bias.specs.Level.{isLevel}
 use Rattle.block.specs.Block.{Block, covered, contextOf, inputRemaining, inputFrom}
 use Rattle.block.specs.Cost.{tokenPrice}
-use Rattle.block.specs.Checks.{blockRefusal}
-use Rattle.block.specs.Band.{problemOf, halfWidth}
+use Rattle.block.specs.Band.{problemOf}
 use Rattle.block_checks.specs.Passed.{Passed}
-use Rattle.block_checks.proofs.Laws.{passed}
 use Rattle.least_cost.specs.Search.{countOf, wholeCost, leastTotal, Banded}
 use Rattle.least_cost.proofs.Whole.{Answer}
 use Rattle.least_cost.proofs.Main as Least
@@ -24,7 +22,6 @@ use Rattle.packing.specs.Signed.{packSigned}
 use Rattle.prices.specs.Book.{Book}
 use Rattle.prices.specs.Checks.{bookRefusal}
 use Rattle.prices.proofs.Costs.{symbolPriceOf}
-use Rattle.weights.specs.Window.{windowOf}
 use Rattle.weights.specs.declared.Window.{Window}
 use Rattle.problem.specs.Tokens.{pastLength, needsInfinite}
 use Rattle.problem.proofs.Terms.{price-infinite}
@@ -70,19 +67,3 @@ module _ (w : ℕ) (v : Window) (book : Book) (ok : bookRefusal book ≡ 0) (b :
       (cs : List ℤ) → Banded (problemOf w v book b) cs
       → (inputRemaining b (covered b) ≤ countOf (problemOf w v book b) cs + (w + 1)) × (countOf (problemOf w v book b) cs ≤ inputRemaining b (covered b) + (w + 1))
   count-within = count-near w v book b P ok
-
--- ---- with document 01's half-width and window
-module _ (book : Book) (ok : bookRefusal book ≡ 0) (b : Block) (passes : blockRefusal (windowOf (covered b)) b 0 ≡ 0) where
-  pub trellis-found : T (finite (leastTotal (problemOf halfWidth (windowOf (covered b)) book b))) → Answer (problemOf halfWidth (windowOf (covered b)) book b)
-  trellis-found = found halfWidth (windowOf (covered b)) book ok b (passed b passes)
-
-  pub trellis-refused :
-      (leastTotal (problemOf halfWidth (windowOf (covered b)) book b) ≡ inf false)
-      ↔ ((cs : List ℤ) → Banded (problemOf halfWidth (windowOf (covered b)) book b) cs → T (needsInfinite (windowOf (covered b)) book b cs))
-  trellis-refused = each-needs-infinite halfWidth (windowOf (covered b)) book ok b (passed b passes)
-
-  pub trellis-count :
-      (cs : List ℤ) → Banded (problemOf halfWidth (windowOf (covered b)) book b) cs
-      → (inputRemaining b (covered b) ≤ countOf (problemOf halfWidth (windowOf (covered b)) book b) cs + 7)
-      × (countOf (problemOf halfWidth (windowOf (covered b)) book b) cs ≤ inputRemaining b (covered b) + 7)
-  trellis-count = count-within halfWidth (windowOf (covered b)) book ok b (passed b passes)

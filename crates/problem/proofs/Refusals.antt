@@ -6,14 +6,14 @@ use Prim.Native.Nat.{ℕ}
 use native.Mathlib.Omega.{arith}
 use borrow.Author.Tests.{eqb-true, eqb-false}
 use lib.Dec.{eqb}
-use Rattle.block.specs.Block.{Block, covered}
+use Rattle.block.specs.Block.{Block}
 use Rattle.block.specs.Checks.{formChecks, contentChecks, blockRefusal, searchRefusal}
 use Rattle.block_checks.proofs.Laws.{none-fails, after-all}
 use Rattle.laws.specs.Refusals.{firstRefused}
 use Rattle.laws.proofs.Refused.{never, not-refused}
 use Rattle.prices.specs.Book.{Book}
 use Rattle.prices.specs.Checks.{check1, check2, check3, check4, check5, check6, firstTwo, firstFive, bookRefusal}
-use Rattle.weights.specs.Window.{windowOf}
+use Rattle.weights.specs.declared.Window.{Window}
 
 -- a number by which no search refuses once its checks have passed
 pub record NoOutcome (n : ℕ) : Type 0 where
@@ -31,7 +31,7 @@ either : (t : Bool) {x y : ℕ} → NoOutcome x → NoOutcome y → NoOutcome (c
 either true a b = a
 either false a b = b
 
-module _ (book : Book) (b : Block) (room : Bool) where
+module _ (v : Window) (book : Book) (b : Block) (room : Bool) where
   abbrev bookChecks : List (Bool × ℕ)
   bookChecks = (check1 book, 1) ∷ (check2 book, 2) ∷ (check3 book, 3) ∷ (check4 book, 4) ∷ (check5 book, 5) ∷ (check6 book, 6) ∷ []
 
@@ -39,17 +39,17 @@ module _ (book : Book) (b : Block) (room : Bool) where
   unfolding bookRefusal firstFive firstTwo firstRefused
   book-number = by-checks bookChecks 0 refl refl none
 
-  block-number : NoOutcome (blockRefusal (windowOf (covered b)) b (cond room 0 14))
+  block-number : NoOutcome (blockRefusal v b (cond room 0 14))
   unfolding blockRefusal formChecks contentChecks
   block-number =
-      by-checks (formChecks b ++ contentChecks (windowOf (covered b)) b) (cond room 0 14) refl refl
+      by-checks (formChecks b ++ contentChecks v b) (cond room 0 14) refl refl
       (either room none (record { not-15 = λ h. omega (arith, h); not-16 = λ h. omega (arith, h) }))
 
-  pub search-number : NoOutcome (searchRefusal book b room)
+  pub search-number : NoOutcome (searchRefusal v book b room)
   unfolding searchRefusal
   search-number = either (eqb (bookRefusal book) 0) block-number book-number
 
-  pub searched : searchRefusal book b room ≡ 0 → (bookRefusal book ≡ 0) × ((blockRefusal (windowOf (covered b)) b 0 ≡ 0) × (room ≡ true))
+  pub searched : searchRefusal v book b room ≡ 0 → (bookRefusal book ≡ 0) × ((blockRefusal v b 0 ≡ 0) × (room ≡ true))
   unfolding searchRefusal
   searched e = go (eqb (bookRefusal book) 0) refl e
     where
@@ -57,9 +57,9 @@ module _ (book : Book) (b : Block) (room : Bool) where
       given true h = refl
       given false h = absurd (omega (arith, h))
 
-      go : (t : Bool) → eqb (bookRefusal book) 0 ≡ t → cond t (blockRefusal (windowOf (covered b)) b (cond room 0 14)) (bookRefusal book) ≡ 0
-          → (bookRefusal book ≡ 0) × ((blockRefusal (windowOf (covered b)) b 0 ≡ 0) × (room ≡ true))
+      go : (t : Bool) → eqb (bookRefusal book) 0 ≡ t → cond t (blockRefusal v b (cond room 0 14)) (bookRefusal book) ≡ 0
+          → (bookRefusal book ≡ 0) × ((blockRefusal v b 0 ≡ 0) × (room ≡ true))
       go true h k =
-          let passes = none-fails (windowOf (covered b)) b (cond room 0 14) k in
-          (eqb-true (bookRefusal book) 0 h, (passes, given room (sym (after-all (windowOf (covered b)) b (cond room 0 14) passes) ∙ k)))
+          let passes = none-fails v b (cond room 0 14) k in
+          (eqb-true (bookRefusal book) 0 h, (passes, given room (sym (after-all v b (cond room 0 14) passes) ∙ k)))
       go false h k = absurd (eqb-false (bookRefusal book) 0 h k)

@@ -13,7 +13,6 @@ planned-lists b w scan source inverse levels =
     record {
       covered-is = w .covered-is;
       covers = w .covers;
-      window-is = w .window-is;
       base-is = w .base-is;
       offset-is = w .offset-is;
       count-is = w .count-is;

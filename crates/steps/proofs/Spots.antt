@@ -15,7 +15,6 @@ use Rattle.candidates.proofs.Laws.{candidates-listed, inside-at, filled-at, fil
 use Rattle.least_cost.specs.Position.{nz}
 use Rattle.scan.specs.Scan.{levelAt}
 use Rattle.weights.specs.Settings.{weightAt, scaledWeight}
-use Rattle.weights.specs.declared.Window.{Window}
 use Rattle.steps.specs.Place.{placeOf, nonzeroRate}
 use Rattle.steps.specs.Plan.{Planned, Lists, Offered, Usable, listed}
 use Rattle.steps.specs.declared.Place.{Place}
@@ -46,7 +45,7 @@ filled-listed x q restore c e = ap listed e ∙ whole (candidatesOf x q restore)
 pub offered : (b : Block) (p : Plan) (i : ℕ) (scan : List ℕ) (source inverse : List Float) (levels : List ℤ) (restoring : Bool) (x : Float) (q : ℤ) (c : Candidates)
     → Lists b scan source inverse levels → Planned b p → restoring ≡ ltb i (p .window .restoring)
     → x ≡ idealAt scan source inverse (p .scale) (p .covered + i) → q ≡ levelAt scan levels (p .covered + i) → c ≡ filled (filler q restoring) (candidatesOf x q restoring)
-    → Offered b i (record { ideal = x; count = c .count; level = q }) (c .levels)
+    → Offered (p .window) b i (record { ideal = x; count = c .count; level = q }) (c .levels)
 unfolding ideal inputAt candidatesAt
 offered b p i scan source inverse levels restoring x q c l w r ex eq ec =
     let at : p .covered + i ≡ covered b + i = ap (λ (n : ℕ). n + i) (w .covered-is) in
@@ -54,7 +53,7 @@ offered b p i scan source inverse levels restoring x q c l w r ex eq ec =
     let value : x ≡ idealAt (b .scan) (b .source) (b .inverse) (b .scale) (covered b + i) = cc in
     record {
       ideal-is = value;
-      listed-is = filled-listed x q restoring c ec ∙ cc (ap (λ (v : Window). ltb i (v .restoring)) (w .window-is));
+      listed-is = filled-listed x q restoring c ec ∙ cc;
       level-is = level;
     }
 

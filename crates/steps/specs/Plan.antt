@@ -14,15 +14,15 @@ use Rattle.candidates.specs.declared.Candidates.{Candidates}
 use Rattle.candidates.specs.Nearest.{isIdeal}
 use Rattle.scan.specs.Scan.{levelAt}
 use Rattle.weights.specs.Settings.{channelScale, restoreRate}
-use Rattle.weights.specs.Window.{windowOf, baseLen}
+use Rattle.weights.specs.Window.{baseLen}
+use Rattle.weights.specs.declared.Window.{Window}
 use Rattle.steps.specs.declared.reading.Offer.{Offer}
 use Rattle.steps.specs.declared.reading.Plan.{Plan}
 
--- p is what a block's shape, settings, bias and scale give
+-- p is what a block's shape, settings, bias and scale give; its window is a choice of its own
 pub record Planned (b : Block) (p : Plan) : Type 0 where
   pub covered-is : p .covered ≡ covered b
   pub covers : Covered (p .covered) (p .log2)
-  pub window-is : p .window ≡ windowOf (covered b)
   pub base-is : p .base ≡ baseLen (covered b)
   pub offset-is : p .offset ≡ fineZeroDensityContextsOffset (contextOf b)
   pub count-is : p .«count_context» ≡ fineNonZeroContext (b .shape .predicted) (contextOf b)
@@ -69,10 +69,10 @@ pub record Usable (c : Candidates) : Type 0 where
 pub record Each (g : ℤ → Float) (levels : List ℤ) (costs : List Float) : Type 0 where
   pub at : (j : ℕ) → j < length levels → getD costs j nan ≡ g (getD levels j (pos 0))
 
--- what window position i of a block offers, the candidates standing in an array
-pub record Offered (b : Block) (i : ℕ) (o : Offer) (levels : List ℤ) : Type 0 where
+-- what position i of the window v of a block offers, the candidates standing in an array
+pub record Offered (v : Window) (b : Block) (i : ℕ) (o : Offer) (levels : List ℤ) : Type 0 where
   pub ideal-is : o .ideal ≡ ideal b i
-  pub listed-is : listed (inArray (o .count) levels) ≡ candidatesAt (windowOf (covered b)) b i
+  pub listed-is : listed (inArray (o .count) levels) ≡ candidatesAt v b i
   pub level-is : o .level ≡ inputAt b (covered b + i)
 
 -- the levels of a whole block can be read through its scan, and from scan position `from` on each is within ±32,767

@@ -15,6 +15,7 @@ ghost use Rattle.ac_context.specs.Contexts.{isPowerBelow};
 ghost use Rattle.block.specs.Block.{Block, blockOf, inputAt, ideal as idealOf, covered as coveredBy};
 ghost use Rattle.candidates.specs.Candidates.{inArray, isCurrent};
 ghost use Rattle.scan.specs.Scan.{levelAt};
+ghost use Rattle.weights.specs.Window.{windowFor};
 ghost use Rattle.steps.specs.Place.{distortionAt, placeOf};
 ghost use Rattle.steps.specs.Plan.{Planned, Coded, Lists, Readable, Offered, listed, Usable, Each};
 
@@ -41,11 +42,13 @@ pub struct Offer {
     pub level: i32,
 }
 
-pub fn plan_of(shape: Shape, settings: Settings, bias: DequantBias, scale: f32) -> Plan
+// The window has at most `cap` positions.
+pub fn plan_of(shape: Shape, settings: Settings, bias: DequantBias, scale: f32, cap: usize) -> Plan
     requires { ⌜ (isPowerBelow 6 (shape .cx) ≡ true) × (isPowerBelow 6 (shape .cy) ≡ true) ⌝ }
     requires { ⌜ (shape .strategy ≤ 26) × (shape .channel ≤ 2) ⌝ }
     ensures { λ r. ⌜ Planned (blockOf shape settings bias scale [] [] [] []) r ⌝ }
     ensures { λ r. ⌜ Coded r ⌝ }
+    ensures { λ r. ⌜ r .window ≡ windowFor cap (shape .cx * shape .cy) ⌝ }
 {
     let covered = shape.cx as usize * shape.cy as usize;
     let block = ac_context::fine_block_context(
@@ -56,7 +59,7 @@ pub fn plan_of(shape: Shape, settings: Settings, bias: DequantBias, scale: f32) 
     Plan {
         covered,
         log2: ac_context::log2_covered(covered),
-        window: weights::rdoq_window_len(covered),
+        window: weights::window_under(cap, covered),
         base: weights::base_len(covered),
         offset: ac_context::fine_zero_density_contexts_offset(block) as usize,
         count_context: ac_context::fine_non_zero_context(shape.predicted as u32, block) as usize,
@@ -82,7 +85,7 @@ impl Plan {
     ) -> Offer
         requires { ⌜ Readable (now scan) (now source) (now «inv_qm») (now levels) (self .scale) (self .covered + i) ⌝ }
         requires { ⌜ self .covered + i < 65536 ⌝ }
-        ensures { λ r. ⌜ ((b : Block) → Lists b (now (scan .entry)) (now (source .entry)) (now («inv_qm» .entry)) (now (levels .entry)) → Planned b self → Offered b i r (now (offered .exit))) ⌝ }
+        ensures { λ r. ⌜ ((b : Block) → Lists b (now (scan .entry)) (now (source .entry)) (now («inv_qm» .entry)) (now (levels .entry)) → Planned b self → Offered (self .window) b i r (now (offered .exit))) ⌝ }
         ensures { λ r. ⌜ (Usable (inArray (r .count) (now (offered .exit)))) × (r .level ≡ levelAt (now (scan .entry)) (now (levels .entry)) (self .covered + i)) ⌝ }
     {
         let k = self.covered + i;

@@ -9,12 +9,11 @@ use lib.Dec.{T}
 use lib.IntN.{ℤ}
 use lib.Ieee.{Float, inf}
 use lib.Ieee.Scale.{finite}
-use Rattle.block.specs.Band.{halfWidth}
-use Rattle.block.specs.Block.{Block, covered}
-use Rattle.block.specs.Checks.{blockRefusal}
+use Rattle.block.specs.Band.{problemOf}
+use Rattle.block.specs.Block.{Block}
 use Rattle.block.specs.declared.Answer.{Answer}
 use Rattle.block.specs.declared.Answer.the-variants.{Cost, Refused}
-use Rattle.block_checks.proofs.Laws.{passed}
+use Rattle.block_checks.specs.Passed.{Passed}
 use Rattle.costs.specs.Cost.{cost}
 use Rattle.costs.proofs.Order.{infinite}
 use Rattle.least_cost.specs.Search.{leastTotal, leastCount, Banded}
@@ -23,30 +22,29 @@ use Rattle.least_cost.proofs.Whole as Whole
 use Rattle.prices.specs.Book.{Book}
 use Rattle.prices.specs.Checks.{bookRefusal}
 use Rattle.problem.specs.Tokens.{needsInfinite}
-use Rattle.problem.proofs.Main.{trellis-found, trellis-refused}
+use Rattle.problem.proofs.Main.{found, each-needs-infinite}
 use Rattle.problem.proofs.Problem.{sound}
-use Rattle.weights.specs.Window.{windowOf}
-use Rattle.trellis_table.specs.Rows.{problem}
+use Rattle.weights.specs.declared.Window.{Window}
 use Rattle.trellis.specs.Outcome.{answered}
 
-module _ (book : Book) (ok : bookRefusal book ≡ 0) (b : Block) (passes : blockRefusal (windowOf (covered b)) b 0 ≡ 0) where
+module _ (w : ℕ) (v : Window) (book : Book) (ok : bookRefusal book ≡ 0) (b : Block) (P : Passed v b) where
   -- 15 is answered exactly where each choice in the band needs a token of infinite price
-  pub refused-exactly : (answered book b ≡ Refused 15) ↔ ((cs : List ℤ) → Banded (problem book b) cs → T (needsInfinite (windowOf (covered b)) book b cs))
+  pub refused-exactly : (answered w v book b ≡ Refused 15) ↔ ((cs : List ℤ) → Banded (problemOf w v book b) cs → T (needsInfinite v book b cs))
   unfolding answered
-  refused-exactly = (λ e. trellis-refused book ok b passes .0 (none (finite (leastTotal (problem book b))) refl e), λ f. rw (trellis-refused book ok b passes .1 f))
+  refused-exactly = (λ e. each-needs-infinite w v book ok b P .0 (none (finite (leastTotal (problemOf w v book b))) refl e), λ f. rw (each-needs-infinite w v book ok b P .1 f))
     where
-      none : (t : Bool) → finite (leastTotal (problem book b)) ≡ t → cond t (Cost (leastTotal (problem book b)) (leastCount (problem book b))) (Refused 15) ≡ Refused 15 → leastTotal (problem book b) ≡ inf false
+      none : (t : Bool) → finite (leastTotal (problemOf w v book b)) ≡ t → cond t (Cost (leastTotal (problemOf w v book b)) (leastCount (problemOf w v book b))) (Refused 15) ≡ Refused 15 → leastTotal (problemOf w v book b) ≡ inf false
       none true e f = cc
-      none false e f = infinite (leastTotal (problem book b)) (leastTotal-cost (problem book b) (sound book ok (windowOf (covered b)) b (passed b passes) halfWidth)) (rw e tt)
+      none false e f = infinite (leastTotal (problemOf w v book b)) (leastTotal-cost (problemOf w v book b) (sound book ok v b P w)) (rw e tt)
 
   -- Where the answer is a cost and a count, they are those of the levels written: a choice in the band, which none there undercuts, and none with a smaller count equals.
-  pub answers-least : {x : Float} {n : ℕ} → answered book b ≡ Cost x n → (x ≡ leastTotal (problem book b)) × ((n ≡ leastCount (problem book b)) × Whole.Answer (problem book b))
+  pub answers-least : {x : Float} {n : ℕ} → answered w v book b ≡ Cost x n → (x ≡ leastTotal (problemOf w v book b)) × ((n ≡ leastCount (problemOf w v book b)) × Whole.Answer (problemOf w v book b))
   unfolding answered
-  answers-least {x} {n} e = some (finite (leastTotal (problem book b))) refl e
+  answers-least {x} {n} e = some (finite (leastTotal (problemOf w v book b))) refl e
     where
-      some : (t : Bool) → finite (leastTotal (problem book b)) ≡ t → cond t (Cost (leastTotal (problem book b)) (leastCount (problem book b))) (Refused 15) ≡ Cost x n
-          → (x ≡ leastTotal (problem book b)) × ((n ≡ leastCount (problem book b)) × Whole.Answer (problem book b))
-      some true e f = (cc, (cc, trellis-found book ok b passes (rw e tt)))
+      some : (t : Bool) → finite (leastTotal (problemOf w v book b)) ≡ t → cond t (Cost (leastTotal (problemOf w v book b)) (leastCount (problemOf w v book b))) (Refused 15) ≡ Cost x n
+          → (x ≡ leastTotal (problemOf w v book b)) × ((n ≡ leastCount (problemOf w v book b)) × Whole.Answer (problemOf w v book b))
+      some true e f = (cc, (cc, found w v book ok b P (rw e tt)))
       some false e f =
           let bad : _≡_ {A = ℕ} 0 1 = cc in
           absurd (omega arith)

@@ -1,13 +1,12 @@
--- What the trellis answers, and what every lent buffer holds afterwards (document 01).
+-- What the trellis answers, and what every lent buffer holds afterwards, for a band of half-width w and a window v; document 01's are 6 and `windowOf c`.
 use Prim.Native.Nat.{ℕ}
 use mathlib.Core.Bool.{cond}
 use mathlib.Core.List.{List}
 use lib.Dec.{eqb}
 use lib.IntN.{ℤ}
 use lib.ListN.{length}
-use lib.Ieee.{Float}
 use lib.Ieee.Scale.{finite}
-use Rattle.block.specs.Band.{halfWidth}
+use Rattle.block.specs.Band.{problemOf}
 use Rattle.block.specs.Block.{Block, covered}
 use Rattle.block.specs.Checks.{searchRefusal, trellisRoom}
 use Rattle.block.specs.Outcome.{Lent, Result, cleared, refused}
@@ -16,27 +15,27 @@ use Rattle.block.specs.declared.Answer.the-variants.{Cost, Refused}
 use Rattle.least_cost.specs.Search.{leastTotal, leastCount, leastLevels}
 use Rattle.prices.specs.Book.{Book}
 use Rattle.scan.specs.Scan.{put}
-use Rattle.trellis_table.specs.Rows.{windowLength, problem}
+use Rattle.weights.specs.declared.Window.{Window}
 
 -- the least cost in the band and its count, or 15 where it is infinite
-unfoldable pub answered : Book → Block → Answer
-answered book b =
-    let p = problem book b in
+unfoldable pub answered : ℕ → Window → Book → Block → Answer
+answered w v book b =
+    let p = problemOf w v book b in
     cond (finite (leastTotal p)) (Cost (leastTotal p) (leastCount p)) (Refused 15)
 
 -- the levels that have it, each at its place; after 15 the block is as it was
-unfoldable pub written : Book → Block → List ℤ
-written book b =
-    let p = problem book b in
-    cond (finite (leastTotal p)) (put (b .scan) (leastLevels p) (covered b) (windowLength b) (b .levels)) (b .levels)
+unfoldable pub written : ℕ → Window → Book → Block → List ℤ
+written w v book b =
+    let p = problemOf w v book b in
+    cond (finite (leastTotal p)) (put (b .scan) (leastLevels p) (covered b) (v .length) (b .levels)) (b .levels)
 
 -- the first of checks 1 to 14 that refuses; 0 where none does
-unfoldable pub refusal : Book → Block → Lent → ℕ
-refusal book b l = searchRefusal book b (trellisRoom halfWidth (windowLength b) (length (l .choices)) (length (l .rowA)) (length (l .rowB)))
+unfoldable pub refusal : ℕ → Window → Book → Block → Lent → ℕ
+refusal w v book b l = searchRefusal v book b (trellisRoom w (v .length) (length (l .choices)) (length (l .rowA)) (length (l .rowB)))
 
 -- Refused by a check of 1 to 14, nothing changes; else the room is cleared. The lent levels are the block's.
-unfoldable pub bandedOutcome : Book → Block → Lent → Result
-bandedOutcome book b l =
-    cond (eqb (refusal book b l) 0)
-    (record { answer = answered book b; lent = cleared (record { levels = written book b; choices = l .choices; rowA = l .rowA; rowB = l .rowB }) })
-    (refused (refusal book b l) l)
+unfoldable pub bandedOutcome : ℕ → Window → Book → Block → Lent → Result
+bandedOutcome w v book b l =
+    cond (eqb (refusal w v book b l) 0)
+    (record { answer = answered w v book b; lent = cleared (record { levels = written w v book b; choices = l .choices; rowA = l .rowA; rowB = l .rowB }) })
+    (refused (refusal w v book b l) l)

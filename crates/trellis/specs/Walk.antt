@@ -8,46 +8,44 @@ use lib.Dec.{T}
 use lib.Ieee.{Float}
 use lib.Ieee.Scale.{finite}
 use Rattle.block.specs.Block.{Block, covered, inputRemaining}
-use Rattle.block.specs.Band.{pastWindow}
+use Rattle.block.specs.Band.{pastWindow, problemOf, tailOf}
+use Rattle.block.specs.Checks.{states}
 use Rattle.block.specs.Cost.{firstPrev}
-use Rattle.least_cost.specs.Search.{best, walk, leastTotal}
-use Rattle.least_cost.specs.Search as Search
+use Rattle.least_cost.specs.Search.{best, walk, leastTotal, leastCount}
 use Rattle.prices.specs.Book.{Book}
-use Rattle.steps.specs.Plan.{Lists}
+use Rattle.search_checks.specs.Checked.{positions, Searched}
 use Rattle.steps.specs.declared.reading.Plan.{Plan}
-use Rattle.trellis_table.specs.Rows.{windowLength, tail, positions, problem, Checked, ChosenFrom}
-use Rattle.weights.specs.Window.{windowOf}
+use Rattle.trellis_table.specs.Rows.{ChosenFrom}
+use Rattle.weights.specs.declared.Window.{Window}
 use Rattle.trellis.specs.declared.search.Found.{Found}
 
 -- what the walk goes by: rows and choices that are done, and a count of finite cost
-pub record Walkable (scan : List ℕ) (source inverse : List Float) (levels : List ℤ) (plan : Plan) (past nonzeros : ℕ) (choices : List ℕ) (count : ℕ) : Type 0 where
+pub record Walkable (width : ℕ) (scan : List ℕ) (source inverse : List Float) (levels : List ℤ) (plan : Plan) (past nonzeros : ℕ) (choices : List ℕ) (count : ℕ) : Type 0 where
+  pub narrow : width ≤ 12
   pub book : Book
-  pub block : Block
-  pub lists : Lists block scan source inverse levels
-  pub checked : Checked book block plan
-  pub past-is : past ≡ pastWindow (windowOf (covered block)) block
-  pub nonzeros-are : nonzeros ≡ inputRemaining block (covered block)
-  pub chosen : ChosenFrom book block 0 choices
-  pub room : 28 * windowLength block ≤ length choices
-  pub cheap : T (finite (best (tail book block) (positions book block 0) count (firstPrev block count)))
+  pub searched : Searched book scan source inverse levels plan
+  pub past-is : past ≡ pastWindow (plan .window) (searched .block)
+  pub nonzeros-are : nonzeros ≡ inputRemaining (searched .block) (covered (searched .block))
+  pub chosen : ChosenFrom width (plan .window) book (searched .block) 0 choices
+  pub room : states width * plan .window .length ≤ length choices
+  pub cheap : T (finite (best (tailOf (plan .window) book (searched .block)) (positions width (plan .window) book (searched .block) 0) count (firstPrev (searched .block) count)))
 
 -- the levels of the walk from `count` on
-abbrev pub walked : Book → Block → ℕ → List ℤ
-walked book b count = walk (tail book b) (positions book b 0) count (firstPrev b count)
+abbrev pub walked : ℕ → Window → Book → Block → ℕ → List ℤ
+walked w v book b count = walk (tailOf v book b) (positions w v book b 0) count (firstPrev b count)
 
 -- what the search of a block finds, and the choices that lead to it
-pub record FoundIn (book : Book) (b : Block) (choices : List ℕ) (f : Found) : Type 0 where
-  pub cost-is : f .cost ≡ leastTotal (problem book b)
-  pub count-is : f .count ≡ Search.leastCount (problem book b)
-  pub past-is : f .past ≡ pastWindow (windowOf (covered b)) b
+pub record FoundIn (w : ℕ) (v : Window) (book : Book) (b : Block) (choices : List ℕ) (f : Found) : Type 0 where
+  pub cost-is : f .cost ≡ leastTotal (problemOf w v book b)
+  pub count-is : f .count ≡ leastCount (problemOf w v book b)
+  pub past-is : f .past ≡ pastWindow v b
   pub nonzeros-are : f .nonzeros ≡ inputRemaining b (covered b)
-  pub chosen : ChosenFrom book b 0 choices
+  pub chosen : ChosenFrom w v book b 0 choices
 
 -- a search that is done, and what it was of
-pub record Done (scan : List ℕ) (source inverse : List Float) (levels : List ℤ) (plan : Plan) (choices : List ℕ) (f : Found) : Type 0 where
+pub record Done (width : ℕ) (scan : List ℕ) (source inverse : List Float) (levels : List ℤ) (plan : Plan) (choices : List ℕ) (f : Found) : Type 0 where
+  pub narrow : width ≤ 12
   pub book : Book
-  pub block : Block
-  pub lists : Lists block scan source inverse levels
-  pub checked : Checked book block plan
-  pub found : FoundIn book block choices f
-  pub room : 28 * windowLength block ≤ length choices
+  pub searched : Searched book scan source inverse levels plan
+  pub found : FoundIn width (plan .window) book (searched .block) choices f
+  pub room : states width * plan .window .length ≤ length choices

@@ -3,22 +3,21 @@ use crate::walk;
 use bias::DequantBias;
 use block::Answer;
 use block::Shape;
+use search_checks::start;
+use search_checks::start::Start;
 use steps::reading::Plan;
-use steps::tokens;
 use trellis_table::count;
 use trellis_table::exchange;
 use weights::Settings;
 ghost use mathlib.Core.Path.{_≡_};
-ghost use Prim.Native.Nat.{_+_, _*_, _≤_};
+ghost use Prim.Native.Nat.{_*_, _≤_};
 ghost use lib.ListN.{length};
-ghost use Rattle.block.specs.Block.{Block, blockOf, covered};
-ghost use Rattle.block.specs.Band.{pastWindow};
-ghost use Rattle.prices.specs.Book.{bookOf};
-ghost use Rattle.prices.specs.Checks.{bookRefusal};
-ghost use Rattle.scan.specs.Scan.{Perm};
-ghost use Rattle.steps.specs.Plan.{Planned, Coded, Whole};
-ghost use Rattle.weights.specs.Window.{windowOf};
-ghost use Rattle.trellis_table.specs.Rows.{windowLength, Checked, TailRow, Kept};
+ghost use Rattle.block.specs.Block.{Block, blockOf};
+ghost use Rattle.block.specs.Checks.{states};
+ghost use Rattle.prices.specs.Book.{Book, bookOf};
+ghost use Rattle.search_checks.specs.Start.{Starts};
+ghost use Rattle.trellis_table.specs.Rows.{Rowable, TailRow, Kept};
+ghost use Rattle.weights.specs.declared.Window.{Window};
 ghost use Rattle.trellis.specs.Walk.{FoundIn, Done};
 ghost use Rattle.trellis.specs.Outcome.{answered, written};
 
@@ -30,46 +29,14 @@ pub struct Found {
     pub nonzeros: usize,
 }
 
-// What follows the window, for `prev` 0 and 1; answers the nonzero levels there.
-fn start_row(
-    clusters: u32,
-    map: &[u8],
-    configs: &[u8],
-    symbols: &[f32],
-    ready: &[f32],
-    plan: Plan,
-    scan: &[u32],
-    levels: &[i32],
-    row: &mut [f32],
-) -> usize
-    requires { ⌜ bookRefusal (bookOf clusters (now map) (now configs) (now symbols) (now ready)) ≡ 0 ⌝ }
-    requires { ⌜ Coded plan ⌝ }
-    requires { ⌜ Whole (plan .covered) (plan .covered + plan .window .length) (now scan) (now levels) ⌝ }
-    requires { ⌜ plan .covered + plan .window .length ≤ length (now scan) ⌝ }
-    requires { ⌜ (Perm (now scan) (length (now levels))) × (length (now levels) ≤ 65536) ⌝ }
-    requires { ⌜ 28 ≤ length (now row) ⌝ }
-    ensures { λ r. ⌜ length (now (row .exit)) ≡ length (now (row .entry)) ⌝ }
-    ensures { λ r. ⌜ ((b : Block) → now (scan .entry) ≡ b .scan → now (levels .entry) ≡ b .levels → length (b .scan) ≡ 64 * covered b → Planned b plan
-        → (r ≡ pastWindow (windowOf (covered b)) b) × TailRow (bookOf clusters (now (map .entry)) (now (configs .entry)) (now (symbols .entry)) (now (ready .entry))) b r (now (row .exit))) ⌝ }
+// Lays down what follows the window, for `prev` 0 and 1.
+fn start_row(start: Start, row: &mut [f32])
+    requires { ⌜ 2 ≤ length (now row) ⌝ }
+    ensures { λ _. ⌜ length (now (row .exit)) ≡ length (now (row .entry)) ⌝ }
+    ensures { λ _. ⌜ ((v : Window) (book : Book) (b : Block) → Starts v book b start → TailRow v book b (now (row .exit))) ⌝ }
 {
-    let window = plan.window;
-    let from = plan.covered + window.length;
-    let past = tokens::nonzeros_from(scan, levels, from);
-    let tails = tokens::tail_costs(
-        clusters,
-        map,
-        configs,
-        symbols,
-        ready,
-        plan,
-        scan,
-        levels,
-        from,
-        past,
-    );
-    row[0] = tails.first;
-    row[1] = tails.second;
-    past
+    row[0] = start.zero;
+    row[1] = start.one;
 }
 
 // Writes the levels of a finite least cost; else refuses with 15.
@@ -81,9 +48,10 @@ pub(crate) fn write_found(
     plan: Plan,
     choices: &[u8],
     found: Found,
+    width: usize,
 ) -> Answer
-    requires { ⌜ Done (now scan) (now source) (now «inv_qm») (now levels) plan (now choices) found ⌝ }
-    ensures { λ r. ⌜ ((d : Done (now (scan .entry)) (now (source .entry)) (now («inv_qm» .entry)) (now (levels .entry)) plan (now (choices .entry)) found) → (r ≡ answered (d .book) (d .block)) × (now (levels .exit) ≡ written (d .book) (d .block))) ⌝ }
+    requires { ⌜ Done width (now scan) (now source) (now «inv_qm») (now levels) plan (now choices) found ⌝ }
+    ensures { λ r. ⌜ ((d : Done width (now (scan .entry)) (now (source .entry)) (now («inv_qm» .entry)) (now (levels .entry)) plan (now (choices .entry)) found) → (r ≡ answered width (plan .window) (d .book) (d .searched .block)) × (now (levels .exit) ≡ written width (plan .window) (d .book) (d .searched .block))) ⌝ }
 {
     if found.cost < costs::infinity() {
         walk::write_levels(
@@ -96,6 +64,7 @@ pub(crate) fn write_found(
             found.nonzeros,
             choices,
             found.count,
+            width,
         );
         return Answer::Cost {
             cost: found.cost,
@@ -105,6 +74,7 @@ pub(crate) fn write_found(
     Answer::Refused(15)
 }
 
+// The search of a block that passed its checks.
 pub(crate) fn search(
     clusters: u32,
     map: &[u8],
@@ -123,23 +93,16 @@ pub(crate) fn search(
     choices: &mut [u8],
     row_a: &mut [f32],
     row_b: &mut [f32],
+    width: usize,
 ) -> Found
-    requires { ⌜ Checked (bookOf clusters (now map) (now configs) (now symbols) (now ready)) (blockOf shape settings bias scale (now scan) (now source) (now «inv_qm») (now levels)) plan ⌝ }
-    requires { ⌜ (28 ≤ length (now «row_a»)) × ((28 ≤ length (now «row_b»)) × (28 * windowLength (blockOf shape settings bias scale (now scan) (now source) (now «inv_qm») (now levels)) ≤ length (now choices))) ⌝ }
+    requires { ⌜ Rowable width (bookOf clusters (now map) (now configs) (now symbols) (now ready)) (blockOf shape settings bias scale (now scan) (now source) (now «inv_qm») (now levels)) plan ⌝ }
+    requires { ⌜ (states width ≤ length (now «row_a»)) × ((states width ≤ length (now «row_b»)) × (states width * plan .window .length ≤ length (now choices))) ⌝ }
     ensures { λ r. ⌜ Kept (now («row_a» .entry)) (now («row_a» .exit)) (now («row_b» .entry)) (now («row_b» .exit)) (now (choices .entry)) (now (choices .exit)) ⌝ }
-    ensures { λ r. ⌜ FoundIn (bookOf clusters (now (map .entry)) (now (configs .entry)) (now (symbols .entry)) (now (ready .entry))) (blockOf shape settings bias scale (now (scan .entry)) (now (source .entry)) (now («inv_qm» .entry)) (now (levels .entry))) (now (choices .exit)) r ⌝ }
+    ensures { λ r. ⌜ FoundIn width (plan .window) (bookOf clusters (now (map .entry)) (now (configs .entry)) (now (symbols .entry)) (now (ready .entry))) (blockOf shape settings bias scale (now (scan .entry)) (now (source .entry)) (now («inv_qm» .entry)) (now (levels .entry))) (now (choices .exit)) r ⌝ }
 {
-    let past = start_row(
-        clusters,
-        map,
-        configs,
-        symbols,
-        ready,
-        plan,
-        scan,
-        levels,
-        row_a,
-    );
+    let start = start::start_of(clusters, map, configs, symbols, ready, plan, scan, levels);
+    let past = start.past;
+    start_row(start, row_a);
     let last = exchange::take_positions(
         clusters,
         map,
@@ -159,6 +122,7 @@ pub(crate) fn search(
         row_a,
         row_b,
         choices,
+        width,
     );
     let step = last.step;
     let live = exchange::live_row(row_a, row_b, last.in_first);
@@ -179,6 +143,7 @@ pub(crate) fn search(
         plan,
         live,
         step.counts,
+        width,
     );
     Found {
         cost: best.cost,

@@ -5,17 +5,24 @@ ghost use mathlib.Core.Path.{_≡_};
 ghost use Prim.Native.Nat.{_+_, _-_, _*_, _≤_, _<_};
 ghost use lib.ListN.{length, getD};
 ghost use Rattle.block.specs.Block.{covered};
+ghost use Rattle.block.specs.Checks.{states};
 ghost use Rattle.scan.specs.Scan.{put};
-ghost use Rattle.trellis_table.specs.Rows.{windowLength};
 ghost use Rattle.trellis.specs.Walk.{Walkable, walked};
 
 // The choice at a position, for `left` remaining and `prev`.
-fn choice_at(choices: &[u8], i: usize, least: usize, left: usize, prev: usize) -> usize
-    requires { ⌜ (i < 1024) × ((left ≤ 131072) × (28 * i + 28 ≤ length (now choices))) ⌝ }
-    requires { ⌜ (least ≤ left) × ((left ≤ least + 13) × (prev ≤ 1)) ⌝ }
-    ensures { λ r. ⌜ r ≡ getD (now (choices .entry)) (28 * i + (2 * (left - least) + prev)) 0 ⌝ }
+fn choice_at(
+    choices: &[u8],
+    i: usize,
+    least: usize,
+    left: usize,
+    prev: usize,
+    width: usize,
+) -> usize
+    requires { ⌜ (i < 1024) × ((left ≤ 131072) × (states width * i + states width ≤ length (now choices))) ⌝ }
+    requires { ⌜ (least ≤ left) × ((left ≤ least + (2 * width + 1)) × ((prev ≤ 1) × (width ≤ 12))) ⌝ }
+    ensures { λ r. ⌜ r ≡ getD (now (choices .entry)) (states width * i + (2 * (left - least) + prev)) 0 ⌝ }
 {
-    choices[position::BAND_STRIDE * i + (2 * (left - least) + prev)] as usize
+    choices[2 * (2 * width + 2) * i + (2 * (left - least) + prev)] as usize
 }
 
 // `nonzeros` counts the input's from the first position on, `count` those that the walk leaves.
@@ -29,9 +36,10 @@ pub(crate) fn write_levels(
     nonzeros: usize,
     choices: &[u8],
     count: usize,
+    width: usize,
 )
-    requires { ⌜ Walkable (now scan) (now source) (now «inv_qm») (now levels) plan past nonzeros (now choices) count ⌝ }
-    ensures { λ _. ⌜ ((w : Walkable (now (scan .entry)) (now (source .entry)) (now («inv_qm» .entry)) (now (levels .entry)) plan past nonzeros (now (choices .entry)) count) → now (levels .exit) ≡ put (now (scan .entry)) (walked (w .book) (w .block) count) (covered (w .block)) (windowLength (w .block)) (now (levels .entry))) ⌝ }
+    requires { ⌜ Walkable width (now scan) (now source) (now «inv_qm») (now levels) plan past nonzeros (now choices) count ⌝ }
+    ensures { λ _. ⌜ ((w : Walkable width (now (scan .entry)) (now (source .entry)) (now («inv_qm» .entry)) (now (levels .entry)) plan past nonzeros (now (choices .entry)) count) → now (levels .exit) ≡ put (now (scan .entry)) (walked width (plan .window) (w .book) (w .searched .block) count) (covered (w .searched .block)) (plan .window .length) (now (levels .entry))) ⌝ }
 {
     let window = plan.window;
     let covered = plan.covered;
@@ -42,8 +50,8 @@ pub(crate) fn write_levels(
     for i in 0..window.length {
         let offer = plan.offer(scan, source, inv_qm, levels, i, &mut offered);
         after -= steps::nonzero(offer.level);
-        let least = position::least_count(past, after);
-        let level = offered[choice_at(choices, i, least, left, prev)];
+        let least = position::least_count(past, after, width);
+        let level = offered[choice_at(choices, i, least, left, prev, width)];
         steps::write_level(scan, levels, covered + i, level);
         prev = steps::nonzero(level);
         left -= prev;

@@ -6,62 +6,48 @@ use Prim.Native.Nat.{ℕ, zero, suc, _+_, _-_, _*_, _/_, _≤_, _<_, max, min}
 use native.Mathlib.Omega.{arith}
 use native.Mathlib.Nat.{le-trans, min-le-right}
 use native.Mathlib.Numerals.{add-one}
-use lib.Dec.{T, leb, lit≤}
+use lib.Dec.{T, leb}
 use lib.ListN.{length, getD}
 use lib.Ieee.{Float, nan, inf, lt, add, binary32}
-use Rattle.ac_context.proofs.Bounds.{covered-most}
 use Rattle.block.specs.Block.{Block, covered, inputRemaining}
-use Rattle.block.specs.Band.{positionsFrom, tailOf, pastWindow, inputAfter, fewestCount, mostCount, problemOf, halfWidth}
+use Rattle.block.specs.Band.{positionsFrom, tailOf, pastWindow, inputAfter, fewestCount, mostCount, problemOf}
 use Rattle.block.specs.Cost.{firstPrev, countCost}
-use Rattle.block_checks.specs.Passed.{Passed}
 use Rattle.least_cost.specs.Position.{Position, Tail}
 use Rattle.least_cost.specs.Search.{Problem, best, least, holder, upFrom, total, leastTotal, leastCount}
 use Rattle.prices.specs.Book.{Book}
 use Rattle.problem.proofs.Problem.{past-most}
 use Rattle.problem.specs.Tokens.{pastLength}
 use Rattle.steps.specs.declared.reading.Plan.{Plan}
-use Rattle.weights.specs.Window.{windowOf}
-use Rattle.trellis_table.specs.Rows.{windowLength, tail, positions, problem, Checked, RowAt, CountsAt, considered}
+use Rattle.weights.specs.declared.Window.{Window}
+use Rattle.search_checks.specs.Checked.{positions}
+use Rattle.search_checks.proofs.Checked.{bit-few, window-some, first-is}
+use Rattle.trellis_table.specs.Rows.{Rowable, RowAt, CountsAt, considered}
 use Rattle.trellis_table.specs.Rows as Rows
 use Rattle.trellis_table.specs.declared.count.Best.{Best}
 use Rattle.trellis_table.specs.declared.position.Counts.{Counts}
-use Rattle.trellis_table.proofs.Steps.{room-left, after-same, passed-block, window-few, past-after, least-most}
+use Rattle.trellis_table.proofs.Steps.{room-left, past-after, least-most}
 
-pub bit-few : (t : Bool) → cond t 1 0 ≤ 1
-bit-few true = lit≤ tt
-bit-few false = lit≤ tt
-
-module _ {book : Book} {b : Block} {p : Plan} (K : Checked book b p) where
-  pub covered-few : p .covered ≤ 1024
-  covered-few = covered-most (K .planned .covers)
-
-  pub some-window : 0 < windowLength b
-  some-window = passed-block K .window .some
-
-  pub counts-some : (c : Counts) → CountsAt b 0 c → c .least ≤ c .most + 1
+module _ {hw : ℕ} {book : Book} {b : Block} {p : Plan} (K : Rowable hw book b p) where
+  pub counts-some : (c : Counts) → CountsAt hw (p .window) b 0 c → c .least ≤ c .most + 1
   unfolding Rows.leastCount
-  counts-some c w = let q = past-after K 0 some-window in le-trans (least-most _ _ _ _ _ (w .least) (w .most) (q .0) (q .1)) (omega arith)
+  counts-some c w = let q = past-after K 0 (window-some (K .checked)) in le-trans (least-most hw _ _ _ _ _ (w .least) (w .most) (q .0) (q .1)) (omega arith)
 
-  pub count-few : (c : Counts) → CountsAt b 0 c → (n : ℕ) → n ≤ c .most → n ≤ 65536
+  pub count-few : (c : Counts) → CountsAt hw (p .window) b 0 c → (n : ℕ) → n ≤ c .most → n ≤ 65536
   unfolding pastLength
   count-few c w n h =
-      let fits = room-left _ _ _ _ _ _ (w .most) some-window (past-most (windowOf (covered b)) b) (passed-block K .window .fits) in
-      omega (arith, passed-block K .most)
-
-  pub first-is : (n x : ℕ) → x ≡ cond (leb n (64 * p .covered / 16)) 1 0 → x ≡ firstPrev b n
-  unfolding firstPrev
-  first-is n x e = e ∙ ap (λ (c : ℕ). cond (leb n (64 * c / 16)) 1 0) (K .planned .covered-is)
+      let fits = room-left _ _ _ _ _ _ (w .most) (window-some (K .checked)) (past-most (p .window) b) (K .checked .passed .window .fits) in
+      omega (arith, K .checked .passed .most)
 
   -- one count's cost
-  pub total-is : (live : List Float) (c : Counts) → RowAt book b 0 live c → (n prev : ℕ) (count : Float) → c .least ≤ n → n ≤ c .most → prev ≡ cond (leb n (64 * p .covered / 16)) 1 0 → count ≡ countCost book b n
-      → add binary32 (getD live (2 * (n - c .least) + prev) nan) count ≡ total (problem book b) n
+  pub total-is : (live : List Float) (c : Counts) → RowAt hw (p .window) book b 0 live c → (n prev : ℕ) (count : Float) → c .least ≤ n → n ≤ c .most → prev ≡ cond (leb n (64 * p .covered / 16)) 1 0 → count ≡ countCost book b n
+      → add binary32 (getD live (2 * (n - c .least) + prev) nan) count ≡ total (problemOf hw (p .window) book b) n
   unfolding total problemOf firstPrev
   total-is live c R n prev count l h e f =
       let small : prev ≤ 1 = subst⁻¹ (λ (k : ℕ). k ≤ 1) e (bit-few (leb n (64 * p .covered / 16))) in
       let value = R .stands .values n prev l h small in
-      let first = first-is n prev e in
-      let all : windowLength b - 0 ≡ windowLength b = omega arith in
-      let same = ap (λ (k : ℕ). best (tail book b) (positionsFrom halfWidth (windowOf (covered b)) book b 0 k) n prev) all in
+      let first = first-is (K .checked) n e in
+      let all : p .window .length - 0 ≡ p .window .length = omega arith in
+      let same = ap (λ (k : ℕ). best (tailOf (p .window) book b) (positionsFrom hw (p .window) book b 0 k) n prev) all in
       cc
 
 -- ---- the counts one after the other: k of them are left from n on
@@ -69,16 +55,16 @@ pub record Sofar (w : Problem) (n k : ℕ) (x : Best) : Type 0 where
   pub cost-left : least (total w) (x .cost) (upFrom n k) ≡ leastTotal w
   pub count-left : holder (total w) (x .cost) (x .count) (upFrom n k) ≡ leastCount w
 
-most-same : (s a w : ℕ) → 0 < w → min (a + 6) (s + (w - 1 - 0)) + 1 ≡ min (s + w) (a + 6 + 1)
-most-same s a w h = omega arith
+most-same : (hw s a w : ℕ) → 0 < w → min (a + hw) (s + (w - 1 - 0)) + 1 ≡ min (s + w) (a + hw + 1)
+most-same hw s a w h = omega arith
 
-pub sofar-start : (book : Book) (b : Block) (c : Counts) → CountsAt b 0 c → 0 < windowLength b → (x : Float) → x ≡ inf false → Sofar (problem book b) (c .least) (c .most + 1 - c .least) (record { cost = x; count = c .least })
+pub sofar-start : (hw : ℕ) (v : Window) (book : Book) (b : Block) (c : Counts) → CountsAt hw v b 0 c → 0 < v .length → (x : Float) → x ≡ inf false → Sofar (problemOf hw v book b) (c .least) (c .most + 1 - c .least) (record { cost = x; count = c .least })
 unfolding leastTotal leastCount problemOf fewestCount mostCount inputAfter Rows.leastCount
-sofar-start book b c w some x e =
+sofar-start hw v book b c w some x e =
     let same : covered b + 0 + 1 ≡ covered b + 1 = omega arith in
     let after = ap (inputRemaining b) same in
     let first = w .least in
-    let last = w .most ∙ most-same (pastWindow (windowOf (covered b)) b) (inputRemaining b (covered b + 1)) (windowLength b) some in
+    let last = w .most ∙ most-same hw (pastWindow v b) (inputRemaining b (covered b + 1)) (v .length) some in
     let wide : c .most + 1 - c .least ≡ suc (c .most) - c .least = ap (λ (k : ℕ). k - c .least) (add-one (c .most)) in
     record { cost-left = cc; count-left = cc }
 

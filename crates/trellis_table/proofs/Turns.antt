@@ -4,7 +4,7 @@ use mathlib.Core.Bool.{Bool, true, false, cond}
 use mathlib.Core.List.{List, []}
 use Prim.Native.Nat.{ℕ, zero, suc, _+_, _-_, _*_, _≤_, _<_}
 use native.Mathlib.Omega.{arith}
-use native.Mathlib.Nat.{le-refl, not-suc-le-zero, le-of-suc-le-suc}
+use native.Mathlib.Nat.{le-trans, le-of-eq, mul-suc, mul-le-mul-left, le-refl, not-suc-le-zero, le-of-suc-le-suc}
 use lib.IntN.{ℤ, pos}
 use lib.Dec.{T, eqb}
 use lib.ListN.{length, getD}
@@ -12,21 +12,23 @@ use lib.Ieee.{Float, nan, inf}
 use lib.Ieee.Scale.{finite}
 use borrow.Author.Tests.{eq-eqb, eqb-true, eqb-false}
 use Rattle.block.specs.Block.{Block, covered, inputRemaining}
-use Rattle.block.specs.Band.{positionsFrom, tailOf, pastWindow, halfWidth}
+use Rattle.block.specs.Band.{positionAt, positionsFrom, tailOf, pastWindow}
+use Rattle.block.specs.Checks.{states}
 use Rattle.least_cost.specs.Position.{Position, Tail}
 use Rattle.least_cost.specs.Search.{best}
 use Rattle.prices.specs.Book.{Book}
 use Rattle.trellis_row.specs.Row.{Elsewhere}
 use Rattle.trellis_row.specs.Table.{RowFor, ChoicesFor}
-use Rattle.weights.specs.Window.{windowOf}
-use Rattle.trellis_table.specs.Rows.{windowLength, tail, position, positions, RowAt, ChosenAt, ChosenFrom, Stepped, Rowed, TailRow}
+use Rattle.search_checks.specs.Checked.{positions}
+use Rattle.weights.specs.declared.Window.{Window}
+use Rattle.trellis_table.specs.Rows.{RowAt, ChosenAt, ChosenFrom, Stepped, Rowed, TailRow}
 use Rattle.trellis_table.specs.declared.position.Counts.{Counts}
 use Rattle.trellis_table.specs.declared.position.Step.{Step}
 
-end-positions : (book : Book) (b : Block) → positions book b (windowLength b) ≡ []
+end-positions : (hw : ℕ) (v : Window) (book : Book) (b : Block) → positions hw v book b (v .length) ≡ []
 unfolding positionsFrom
-end-positions book b =
-    let none : windowLength b - windowLength b ≡ 0 = omega arith in
+end-positions hw v book b =
+    let none : v .length - v .length ≡ 0 = omega arith in
     rw none
 
 end-best : (t : Tail) (r p : ℕ) → r ≡ t .count → best t [] r p ≡ t .cost p
@@ -41,22 +43,22 @@ end-inside t r p f = go (eqb r (t .count)) refl f
     go true e g = eqb-true r (t .count) e
     go false e g = absurd g
 
-tail-pair : {book : Book} {b : Block} {past : ℕ} {row : List Float} → TailRow book b past row → (p : ℕ) → p ≤ 1 → getD row p nan ≡ tail book b .cost p
+tail-pair : {v : Window} {book : Book} {b : Block} {row : List Float} → TailRow v book b row → (p : ℕ) → p ≤ 1 → getD row p nan ≡ tailOf v book b .cost p
 tail-pair w zero h = w .zero
 tail-pair w (suc zero) h = w .one
 tail-pair w (suc (suc p)) h = absurd (not-suc-le-zero (le-of-suc-le-suc h))
 
-pub rowed-start : (book : Book) (b : Block) (past : ℕ) (first second : List Float) (choices : List ℕ) → past ≡ pastWindow (windowOf (covered b)) b → TailRow book b past first
-    → Rowed book b (windowLength b) first second choices (record { counts = record { least = past; most = past }; after = past }) true
+pub rowed-start : (hw : ℕ) (v : Window) (book : Book) (b : Block) (past : ℕ) (first second : List Float) (choices : List ℕ) → past ≡ pastWindow v b → TailRow v book b first
+    → Rowed hw v book b (v .length) first second choices (record { counts = record { least = past; most = past }; after = past }) true
 unfolding tailOf pastWindow
-rowed-start book b past first second choices e w =
+rowed-start hw v book b past first second choices e w =
     record {
       live =
           record {
-            stands = subst⁻¹ (λ (l : List Position). RowFor (tail book b) l first past past) (end-positions book b)
+            stands = subst⁻¹ (λ (l : List Position). RowFor (tailOf v book b) l first past past) (end-positions hw v book b)
                 (record {
                   values = λ r p l h P. value r p l h P;
-                  inside = λ r p P f. let same = end-inside (tail book b) r p f ∙ sym e in (omega arith, omega arith);
+                  inside = λ r p P f. let same = end-inside (tailOf v book b) r p f ∙ sym e in (omega arith, omega arith);
                 });
             narrow = omega arith;
           };
@@ -65,29 +67,32 @@ rowed-start book b past first second choices e w =
       counts-are = λ h. absurd (omega arith);
     }
   where
-    value : (r p : ℕ) → past ≤ r → r ≤ past → p ≤ 1 → getD first (2 * (r - past) + p) nan ≡ best (tail book b) [] r p
+    value : (r p : ℕ) → past ≤ r → r ≤ past → p ≤ 1 → getD first (2 * (r - past) + p) nan ≡ best (tailOf v book b) [] r p
     value r p l h P =
         let here : 2 * (r - past) + p ≡ p = omega arith in
         let same : r ≡ past = omega arith in
-        ap (λ (k : ℕ). getD first k nan) here ∙ tail-pair w p P ∙ sym (end-best (tail book b) r p (same ∙ e))
+        ap (λ (k : ℕ). getD first k nan) here ∙ tail-pair w p P ∙ sym (end-best (tailOf v book b) r p (same ∙ e))
 
-chosen-kept : {book : Book} {b : Block} {i j : ℕ} {choices choices' : List ℕ} → i < j → Elsewhere (28 * i) 28 choices choices' → ChosenAt book b j choices → ChosenAt book b j choices'
-chosen-kept {book} {b} {i} {j} {choices} {choices'} h E w =
+before-next : (s i j : ℕ) → i < j → s * i + s ≤ s * j
+before-next s i j h = le-trans (le-of-eq (sym (mul-suc s i))) (mul-le-mul-left s h)
+
+chosen-kept : {hw : ℕ} {v : Window} {book : Book} {b : Block} {i j : ℕ} {choices choices' : List ℕ} → i < j → Elsewhere (states hw * i) (states hw) choices choices' → ChosenAt hw v book b j choices → ChosenAt hw v book b j choices'
+chosen-kept {hw} {v} {book} {b} {i} {j} {choices} {choices'} h E w =
     record {
       stands = record {
-        picks = λ r p P f. ap (λ (k : ℕ). getD (position book b j .candidates) k (pos 0)) (same (2 * (r - _) + p)) ∙ w .stands .picks r p P f;
-        below = λ r p P f. subst⁻¹ (λ (k : ℕ). k < length (position book b j .candidates)) (same (2 * (r - _) + p)) (w .stands .below r p P f);
+        picks = λ r p P f. ap (λ (k : ℕ). getD (positionAt hw v book b j .candidates) k (pos 0)) (same (2 * (r - _) + p)) ∙ w .stands .picks r p P f;
+        below = λ r p P f. subst⁻¹ (λ (k : ℕ). k < length (positionAt hw v book b j .candidates)) (same (2 * (r - _) + p)) (w .stands .below r p P f);
       };
     }
   where
-    same : (n : ℕ) → getD choices' (28 * j + n) 0 ≡ getD choices (28 * j + n) 0
-    same n = E .behind (28 * j + n) (omega arith)
+    same : (n : ℕ) → getD choices' (states hw * j + n) 0 ≡ getD choices (states hw * j + n) 0
+    same n = E .behind (states hw * j + n) (omega (arith, before-next (states hw) i j h))
 
-pub chosen-more : {book : Book} {b : Block} {i : ℕ} {choices choices' : List ℕ} → Elsewhere (28 * i) 28 choices choices' → ChosenAt book b i choices' → ChosenFrom book b (suc i) choices → ChosenFrom book b i choices'
-chosen-more {book} {b} {i} {choices} {choices'} E here w = record { each = λ j l h. go j l h (eqb i j) refl }
+pub chosen-more : {hw : ℕ} {v : Window} {book : Book} {b : Block} {i : ℕ} {choices choices' : List ℕ} → Elsewhere (states hw * i) (states hw) choices choices' → ChosenAt hw v book b i choices' → ChosenFrom hw v book b (suc i) choices → ChosenFrom hw v book b i choices'
+chosen-more {hw} {v} {book} {b} {i} {choices} {choices'} E here w = record { each = λ j l h. go j l h (eqb i j) refl }
   where
-    go : (j : ℕ) → i ≤ j → j < windowLength b → (t : Bool) → eqb i j ≡ t → ChosenAt book b j choices'
-    go j l h true e = subst (λ (k : ℕ). ChosenAt book b k choices') (eqb-true i j e) here
+    go : (j : ℕ) → i ≤ j → j < v .length → (t : Bool) → eqb i j ≡ t → ChosenAt hw v book b j choices'
+    go j l h true e = subst (λ (k : ℕ). ChosenAt hw v book b k choices') (eqb-true i j e) here
     go j l h false e =
         let other = eqb-false i j e in
         let later : i < j = omega (arith, other) in
@@ -97,25 +102,25 @@ chosen-more {book} {b} {i} {choices} {choices'} E here w = record { each = λ j 
 again : (i : ℕ) → 0 < i → suc (i - 1) ≡ i
 again i h = omega arith
 
-module _ {book : Book} {b : Block} {i : ℕ} {first second : List Float} {choices : List ℕ} {s : Step} {inFirst : Bool} (h : 0 < i) (w : Rowed book b i first second choices s inFirst) where
-  pub from-first : inFirst ≡ true → RowAt book b (suc (i - 1)) first (s .counts)
+module _ {hw : ℕ} {v : Window} {book : Book} {b : Block} {i : ℕ} {first second : List Float} {choices : List ℕ} {s : Step} {inFirst : Bool} (h : 0 < i) (w : Rowed hw v book b i first second choices s inFirst) where
+  pub from-first : inFirst ≡ true → RowAt hw v book b (suc (i - 1)) first (s .counts)
   from-first e =
-      subst⁻¹ (λ (k : ℕ). RowAt book b k first (s .counts)) (again i h)
-      (subst (λ (t : Bool). RowAt book b i (cond t first second) (s .counts)) e (w .live))
+      subst⁻¹ (λ (k : ℕ). RowAt hw v book b k first (s .counts)) (again i h)
+      (subst (λ (t : Bool). RowAt hw v book b i (cond t first second) (s .counts)) e (w .live))
 
-  pub from-second : inFirst ≡ false → RowAt book b (suc (i - 1)) second (s .counts)
+  pub from-second : inFirst ≡ false → RowAt hw v book b (suc (i - 1)) second (s .counts)
   from-second e =
-      subst⁻¹ (λ (k : ℕ). RowAt book b k second (s .counts)) (again i h)
-      (subst (λ (t : Bool). RowAt book b i (cond t first second) (s .counts)) e (w .live))
+      subst⁻¹ (λ (k : ℕ). RowAt hw v book b k second (s .counts)) (again i h)
+      (subst (λ (t : Bool). RowAt hw v book b i (cond t first second) (s .counts)) e (w .live))
 
   pub after-back : s .after ≡ inputRemaining b (covered b + suc (i - 1))
   after-back = w .after-is ∙ ap (λ (k : ℕ). inputRemaining b (covered b + k)) (sym (again i h))
 
-  chosen-back : ChosenFrom book b (suc (i - 1)) choices
-  chosen-back = subst⁻¹ (λ (k : ℕ). ChosenFrom book b k choices) (again i h) (w .chosen)
+  chosen-back : ChosenFrom hw v book b (suc (i - 1)) choices
+  chosen-back = subst⁻¹ (λ (k : ℕ). ChosenFrom hw v book b k choices) (again i h) (w .chosen)
 
-  pub to-second : {row row' : List Float} {choices' : List ℕ} {s' : Step} → Stepped book b (i - 1) row row' choices choices' s' → Rowed book b (i - 1) first row' choices' s' false
-  to-second v = record { live = v .row-is; chosen = chosen-more (v .elsewhere) (v .chosen) chosen-back; after-is = v .after-is; counts-are = λ _. v .counts-are }
+  pub to-second : {row row' : List Float} {choices' : List ℕ} {s' : Step} → Stepped hw v book b (i - 1) row row' choices choices' s' → Rowed hw v book b (i - 1) first row' choices' s' false
+  to-second x = record { live = x .row-is; chosen = chosen-more (x .elsewhere) (x .chosen) chosen-back; after-is = x .after-is; counts-are = λ _. x .counts-are }
 
-  pub to-first : {row row' : List Float} {choices' : List ℕ} {s' : Step} → Stepped book b (i - 1) row row' choices choices' s' → Rowed book b (i - 1) row' second choices' s' true
-  to-first v = record { live = v .row-is; chosen = chosen-more (v .elsewhere) (v .chosen) chosen-back; after-is = v .after-is; counts-are = λ _. v .counts-are }
+  pub to-first : {row row' : List Float} {choices' : List ℕ} {s' : Step} → Stepped hw v book b (i - 1) row row' choices choices' s' → Rowed hw v book b (i - 1) row' second choices' s' true
+  to-first x = record { live = x .row-is; chosen = chosen-more (x .elsewhere) (x .chosen) chosen-back; after-is = x .after-is; counts-are = λ _. x .counts-are }

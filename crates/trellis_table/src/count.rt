@@ -12,7 +12,9 @@ ghost use lib.ListN.{length};
 ghost use Rattle.block.specs.Block.{blockOf};
 ghost use Rattle.least_cost.specs.Search.{total, leastTotal, leastCount};
 ghost use Rattle.prices.specs.Book.{bookOf};
-ghost use Rattle.trellis_table.specs.Rows.{Checked, RowAt, CountsAt, problem, considered};
+ghost use Rattle.block.specs.Band.{problemOf};
+ghost use Rattle.block.specs.Checks.{states};
+ghost use Rattle.trellis_table.specs.Rows.{Rowable, RowAt, CountsAt, considered};
 
 // The least cost, and the count that has it.
 pub struct Best {
@@ -50,13 +52,14 @@ fn total_of(
     live: &[f32],
     counts: Counts,
     n: usize,
+    width: usize,
 ) -> f32
-    requires { ⌜ Checked (bookOf clusters (now map) (now configs) (now symbols) (now ready)) (blockOf shape settings bias scale (now scan) (now source) (now «inv_qm») (now levels)) plan ⌝ }
-    requires { ⌜ RowAt (bookOf clusters (now map) (now configs) (now symbols) (now ready)) (blockOf shape settings bias scale (now scan) (now source) (now «inv_qm») (now levels)) 0 (now live) counts ⌝ }
-    requires { ⌜ CountsAt (blockOf shape settings bias scale (now scan) (now source) (now «inv_qm») (now levels)) 0 counts ⌝ }
-    requires { ⌜ 28 ≤ length (now live) ⌝ }
+    requires { ⌜ Rowable width (bookOf clusters (now map) (now configs) (now symbols) (now ready)) (blockOf shape settings bias scale (now scan) (now source) (now «inv_qm») (now levels)) plan ⌝ }
+    requires { ⌜ RowAt width (plan .window) (bookOf clusters (now map) (now configs) (now symbols) (now ready)) (blockOf shape settings bias scale (now scan) (now source) (now «inv_qm») (now levels)) 0 (now live) counts ⌝ }
+    requires { ⌜ CountsAt width (plan .window) (blockOf shape settings bias scale (now scan) (now source) (now «inv_qm») (now levels)) 0 counts ⌝ }
+    requires { ⌜ states width ≤ length (now live) ⌝ }
     requires { ⌜ (counts .least ≤ n) × (n ≤ counts .most) ⌝ }
-    ensures { λ r. ⌜ r ≡ total (problem (bookOf clusters (now (map .entry)) (now (configs .entry)) (now (symbols .entry)) (now (ready .entry))) (blockOf shape settings bias scale (now (scan .entry)) (now (source .entry)) (now («inv_qm» .entry)) (now (levels .entry)))) n ⌝ }
+    ensures { λ r. ⌜ r ≡ total (problemOf width (plan .window) (bookOf clusters (now (map .entry)) (now (configs .entry)) (now (symbols .entry)) (now (ready .entry))) (blockOf shape settings bias scale (now (scan .entry)) (now (source .entry)) (now («inv_qm» .entry)) (now (levels .entry)))) n ⌝ }
 {
     let prev = steps::tokens::first_prev(plan.covered, n);
     let at = 2 * (n - counts.least) + prev;
@@ -80,12 +83,13 @@ pub fn best_count(
     plan: Plan,
     live: &[f32],
     counts: Counts,
+    width: usize,
 ) -> Best
-    requires { ⌜ Checked (bookOf clusters (now map) (now configs) (now symbols) (now ready)) (blockOf shape settings bias scale (now scan) (now source) (now «inv_qm») (now levels)) plan ⌝ }
-    requires { ⌜ RowAt (bookOf clusters (now map) (now configs) (now symbols) (now ready)) (blockOf shape settings bias scale (now scan) (now source) (now «inv_qm») (now levels)) 0 (now live) counts ⌝ }
-    requires { ⌜ CountsAt (blockOf shape settings bias scale (now scan) (now source) (now «inv_qm») (now levels)) 0 counts ⌝ }
-    requires { ⌜ 28 ≤ length (now live) ⌝ }
-    ensures { λ r. ⌜ (r .cost ≡ leastTotal (problem (bookOf clusters (now (map .entry)) (now (configs .entry)) (now (symbols .entry)) (now (ready .entry))) (blockOf shape settings bias scale (now (scan .entry)) (now (source .entry)) (now («inv_qm» .entry)) (now (levels .entry))))) × (r .count ≡ leastCount (problem (bookOf clusters (now (map .entry)) (now (configs .entry)) (now (symbols .entry)) (now (ready .entry))) (blockOf shape settings bias scale (now (scan .entry)) (now (source .entry)) (now («inv_qm» .entry)) (now (levels .entry))))) ⌝ }
+    requires { ⌜ Rowable width (bookOf clusters (now map) (now configs) (now symbols) (now ready)) (blockOf shape settings bias scale (now scan) (now source) (now «inv_qm») (now levels)) plan ⌝ }
+    requires { ⌜ RowAt width (plan .window) (bookOf clusters (now map) (now configs) (now symbols) (now ready)) (blockOf shape settings bias scale (now scan) (now source) (now «inv_qm») (now levels)) 0 (now live) counts ⌝ }
+    requires { ⌜ CountsAt width (plan .window) (blockOf shape settings bias scale (now scan) (now source) (now «inv_qm») (now levels)) 0 counts ⌝ }
+    requires { ⌜ states width ≤ length (now live) ⌝ }
+    ensures { λ r. ⌜ (r .cost ≡ leastTotal (problemOf width (plan .window) (bookOf clusters (now (map .entry)) (now (configs .entry)) (now (symbols .entry)) (now (ready .entry))) (blockOf shape settings bias scale (now (scan .entry)) (now (source .entry)) (now («inv_qm» .entry)) (now (levels .entry))))) × (r .count ≡ leastCount (problemOf width (plan .window) (bookOf clusters (now (map .entry)) (now (configs .entry)) (now (symbols .entry)) (now (ready .entry))) (blockOf shape settings bias scale (now (scan .entry)) (now (source .entry)) (now («inv_qm» .entry)) (now (levels .entry))))) ⌝ }
 {
     let most = counts.most;
     let mut best = Best {
@@ -112,6 +116,7 @@ pub fn best_count(
             live,
             counts,
             n,
+            width,
         );
         best = best.consider(cost, n);
         n += 1;

@@ -12,9 +12,9 @@ ghost use Prim.Native.Nat.{_+_, _*_, _≤_};
 ghost use lib.ListN.{length};
 ghost use Rattle.block.specs.Block.{blockOf, covered, inputRemaining};
 ghost use Rattle.block.specs.Band.{pastWindow};
+ghost use Rattle.block.specs.Checks.{states};
 ghost use Rattle.prices.specs.Book.{bookOf};
-ghost use Rattle.weights.specs.Window.{windowOf};
-ghost use Rattle.trellis_table.specs.Rows.{windowLength, Checked, TailRow, Rowed, Kept};
+ghost use Rattle.trellis_table.specs.Rows.{Rowable, TailRow, Rowed, Kept};
 
 // Where the costs of the first position stand, and for which counts.
 pub struct Last {
@@ -48,12 +48,13 @@ pub fn take_positions(
     first: &mut [f32],
     second: &mut [f32],
     choices: &mut [u8],
+    width: usize,
 ) -> Last
-    requires { ⌜ Checked (bookOf clusters (now map) (now configs) (now symbols) (now ready)) (blockOf shape settings bias scale (now scan) (now source) (now «inv_qm») (now levels)) plan ⌝ }
-    requires { ⌜ past ≡ pastWindow (windowOf (covered (blockOf shape settings bias scale (now scan) (now source) (now «inv_qm») (now levels)))) (blockOf shape settings bias scale (now scan) (now source) (now «inv_qm») (now levels)) ⌝ }
-    requires { ⌜ TailRow (bookOf clusters (now map) (now configs) (now symbols) (now ready)) (blockOf shape settings bias scale (now scan) (now source) (now «inv_qm») (now levels)) past (now first) ⌝ }
-    requires { ⌜ (28 ≤ length (now first)) × ((28 ≤ length (now second)) × (28 * windowLength (blockOf shape settings bias scale (now scan) (now source) (now «inv_qm») (now levels)) ≤ length (now choices))) ⌝ }
-    ensures { λ r. ⌜ Rowed (bookOf clusters (now (map .entry)) (now (configs .entry)) (now (symbols .entry)) (now (ready .entry))) (blockOf shape settings bias scale (now (scan .entry)) (now (source .entry)) (now («inv_qm» .entry)) (now (levels .entry))) 0 (now (first .exit)) (now (second .exit)) (now (choices .exit)) (r .step) (r .«in_first») ⌝ }
+    requires { ⌜ Rowable width (bookOf clusters (now map) (now configs) (now symbols) (now ready)) (blockOf shape settings bias scale (now scan) (now source) (now «inv_qm») (now levels)) plan ⌝ }
+    requires { ⌜ past ≡ pastWindow (plan .window) (blockOf shape settings bias scale (now scan) (now source) (now «inv_qm») (now levels)) ⌝ }
+    requires { ⌜ TailRow (plan .window) (bookOf clusters (now map) (now configs) (now symbols) (now ready)) (blockOf shape settings bias scale (now scan) (now source) (now «inv_qm») (now levels)) (now first) ⌝ }
+    requires { ⌜ (states width ≤ length (now first)) × ((states width ≤ length (now second)) × (states width * plan .window .length ≤ length (now choices))) ⌝ }
+    ensures { λ r. ⌜ Rowed width (plan .window) (bookOf clusters (now (map .entry)) (now (configs .entry)) (now (symbols .entry)) (now (ready .entry))) (blockOf shape settings bias scale (now (scan .entry)) (now (source .entry)) (now («inv_qm» .entry)) (now (levels .entry))) 0 (now (first .exit)) (now (second .exit)) (now (choices .exit)) (r .step) (r .«in_first») ⌝ }
     ensures { λ r. ⌜ Kept (now (first .entry)) (now (first .exit)) (now (second .entry)) (now (second .exit)) (now (choices .entry)) (now (choices .exit)) ⌝ }
 {
     let window = plan.window;
@@ -93,6 +94,7 @@ pub fn take_positions(
                 counts,
                 second,
                 choices,
+                width,
             );
             in_first = false;
         } else {
@@ -118,6 +120,7 @@ pub fn take_positions(
                 counts,
                 first,
                 choices,
+                width,
             );
             in_first = true;
         }

@@ -9,13 +9,9 @@ ghost use Prim.Native.Nat.{suc, _+_, _-_, _*_, _<_, _≤_, max, min};
 ghost use lib.ListN.{length};
 ghost use Rattle.block.specs.Block.{blockOf, covered, inputRemaining};
 ghost use Rattle.block.specs.Band.{pastWindow};
+ghost use Rattle.block.specs.Checks.{states};
 ghost use Rattle.prices.specs.Book.{bookOf};
-ghost use Rattle.weights.specs.Window.{windowOf};
-ghost use Rattle.trellis_table.specs.Rows.{windowLength, leastCount, Checked, RowAt, Stepped};
-
-const MAX_NZERO_DELTA: usize = 6;
-
-pub const BAND_STRIDE: usize = 28;
+ghost use Rattle.trellis_table.specs.Rows.{leastCount, Rowable, RowAt, Stepped};
 
 // The counts that a row holds.
 pub struct Counts {
@@ -41,42 +37,38 @@ fn smaller(a: usize, b: usize) -> usize
     if a < b { a } else { b }
 }
 
-fn less(a: usize) -> usize
-    ensures { λ r. ⌜ r ≡ a - 6 ⌝ }
+fn less(a: usize, width: usize) -> usize
+    ensures { λ r. ⌜ r ≡ a - width ⌝ }
 {
-    if a < MAX_NZERO_DELTA {
-        0
-    } else {
-        a - MAX_NZERO_DELTA
-    }
+    if a < width { 0 } else { a - width }
 }
 
-pub fn least_count(past: usize, after: usize) -> usize
-    ensures { λ r. ⌜ r ≡ leastCount past after ⌝ }
+pub fn least_count(past: usize, after: usize, width: usize) -> usize
+    ensures { λ r. ⌜ r ≡ leastCount width past after ⌝ }
 {
-    larger(past, less(after))
+    larger(past, less(after, width))
 }
 
 // The counts of a position that `after` nonzero input levels follow, `past` of them past the window, and `left` window positions.
-fn counts_of(past: usize, after: usize, left: usize) -> Counts
-    requires { ⌜ (after ≤ 65536) × ((past ≤ 65536) × (left ≤ 1024)) ⌝ }
-    ensures { λ r. ⌜ (r .least ≡ leastCount past after) × (r .most ≡ min (after + 6) (past + left) + 1) ⌝ }
+fn counts_of(past: usize, after: usize, left: usize, width: usize) -> Counts
+    requires { ⌜ (after ≤ 65536) × ((past ≤ 65536) × ((left ≤ 1024) × (width ≤ 12))) ⌝ }
+    ensures { λ r. ⌜ (r .least ≡ leastCount width past after) × (r .most ≡ min (after + width) (past + left) + 1) ⌝ }
 {
     Counts {
-        least: least_count(past, after),
-        most: smaller(after + MAX_NZERO_DELTA, past + left) + 1,
+        least: least_count(past, after, width),
+        most: smaller(after + width, past + left) + 1,
     }
 }
 
 // What the band and the next row have in common.
-fn span_of(after: usize, next: Counts) -> Span
-    requires { ⌜ after ≤ 65536 ⌝ }
-    ensures { λ r. ⌜ (r .base ≡ next .least) × ((r .from ≡ max (after - 6) (next .least)) × (r .upto ≡ min (after + 6) (next .most))) ⌝ }
+fn span_of(after: usize, next: Counts, width: usize) -> Span
+    requires { ⌜ (after ≤ 65536) × (width ≤ 12) ⌝ }
+    ensures { λ r. ⌜ (r .base ≡ next .least) × ((r .from ≡ max (after - width) (next .least)) × (r .upto ≡ min (after + width) (next .most))) ⌝ }
 {
     Span {
         base: next.least,
-        from: larger(less(after), next.least),
-        upto: smaller(after + MAX_NZERO_DELTA, next.most),
+        from: larger(less(after, width), next.least),
+        upto: smaller(after + width, next.most),
     }
 }
 
@@ -102,21 +94,22 @@ pub fn take_position(
     next_counts: Counts,
     current: &mut [f32],
     choices: &mut [u8],
+    width: usize,
 ) -> Step
-    requires { ⌜ Checked (bookOf clusters (now map) (now configs) (now symbols) (now ready)) (blockOf shape settings bias scale (now scan) (now source) (now «inv_qm») (now levels)) plan ⌝ }
-    requires { ⌜ i < windowLength (blockOf shape settings bias scale (now scan) (now source) (now «inv_qm») (now levels)) ⌝ }
+    requires { ⌜ Rowable width (bookOf clusters (now map) (now configs) (now symbols) (now ready)) (blockOf shape settings bias scale (now scan) (now source) (now «inv_qm») (now levels)) plan ⌝ }
+    requires { ⌜ i < plan .window .length ⌝ }
     requires { ⌜ after ≡ inputRemaining (blockOf shape settings bias scale (now scan) (now source) (now «inv_qm») (now levels)) (covered (blockOf shape settings bias scale (now scan) (now source) (now «inv_qm») (now levels)) + suc i) ⌝ }
-    requires { ⌜ past ≡ pastWindow (windowOf (covered (blockOf shape settings bias scale (now scan) (now source) (now «inv_qm») (now levels)))) (blockOf shape settings bias scale (now scan) (now source) (now «inv_qm») (now levels)) ⌝ }
-    requires { ⌜ RowAt (bookOf clusters (now map) (now configs) (now symbols) (now ready)) (blockOf shape settings bias scale (now scan) (now source) (now «inv_qm») (now levels)) (suc i) (now next) «next_counts» ⌝ }
-    requires { ⌜ (28 ≤ length (now next)) × ((28 ≤ length (now current)) × (28 * i + 28 ≤ length (now choices))) ⌝ }
-    ensures { λ r. ⌜ Stepped (bookOf clusters (now (map .entry)) (now (configs .entry)) (now (symbols .entry)) (now (ready .entry))) (blockOf shape settings bias scale (now (scan .entry)) (now (source .entry)) (now («inv_qm» .entry)) (now (levels .entry))) i (now (current .entry)) (now (current .exit)) (now (choices .entry)) (now (choices .exit)) r ⌝ }
+    requires { ⌜ past ≡ pastWindow (plan .window) (blockOf shape settings bias scale (now scan) (now source) (now «inv_qm») (now levels)) ⌝ }
+    requires { ⌜ RowAt width (plan .window) (bookOf clusters (now map) (now configs) (now symbols) (now ready)) (blockOf shape settings bias scale (now scan) (now source) (now «inv_qm») (now levels)) (suc i) (now next) «next_counts» ⌝ }
+    requires { ⌜ (states width ≤ length (now next)) × ((states width ≤ length (now current)) × (states width * i + states width ≤ length (now choices))) ⌝ }
+    ensures { λ r. ⌜ Stepped width (plan .window) (bookOf clusters (now (map .entry)) (now (configs .entry)) (now (symbols .entry)) (now (ready .entry))) (blockOf shape settings bias scale (now (scan .entry)) (now (source .entry)) (now («inv_qm» .entry)) (now (levels .entry))) i (now (current .entry)) (now (current .exit)) (now (choices .entry)) (now (choices .exit)) r ⌝ }
 {
     let mut offered = [0i32; 5];
     let offer = plan.offer(scan, source, inv_qm, levels, i, &mut offered);
     let place = plan.place(i, offer.ideal, offer.level);
     let window = plan.window;
-    let counts = counts_of(past, after, window.length - 1 - i);
-    let span = span_of(after, next_counts);
+    let counts = counts_of(past, after, window.length - 1 - i, width);
+    let span = span_of(after, next_counts, width);
     trellis_sole::fill_row(
         clusters,
         map,
@@ -130,7 +123,7 @@ pub fn take_position(
         span,
         current,
         choices,
-        BAND_STRIDE * i,
+        2 * (2 * width + 2) * i,
         counts.least,
         counts.most,
     );

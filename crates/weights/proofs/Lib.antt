@@ -1,3 +1,4 @@
 pub mod Parts
 pub mod Laws
+pub mod Lengths
 pub mod Examples

@@ -22,6 +22,10 @@ restoreLen c = cond (eqb c 1) 20 (min (24 * c) 256)
 unfoldable pub windowOf : ℕ → Window
 windowOf c = record { length = windowLen c; restoring = restoreLen c }
 
+-- The window of document 01 cut to at most `cap` positions: under 1,024 it is the whole (proofs/Lengths).
+unfoldable pub windowFor : ℕ → ℕ → Window
+windowFor cap c = record { length = min cap (windowLen c); restoring = min (restoreLen c) (min cap (windowLen c)) }
+
 -- The weight's base length: past it a position weighs as at it.
 abbrev pub baseLen : ℕ → ℕ
 baseLen c = min (min (24 * c) 64) (63 * c)

@@ -1,7 +1,7 @@
 // Lambda, the distortion's weights and the lengths of a search's window.
 ghost use mathlib.Core.Path.{_≡_};
 ghost use Prim.Native.Nat.{_≤_, max, min};
-ghost use Rattle.weights.specs.Window.{windowOf, baseLen};
+ghost use Rattle.weights.specs.Window.{windowFor, windowOf, baseLen};
 ghost use Rattle.weights.specs.Weights.{clamp, lambdaOf, chromaWeight, distortionWeight};
 ghost use Rattle.weights.specs.Settings.{within, validSettings, isDistance, channelScale, scaledWeight, restoreRate};
 
@@ -80,6 +80,19 @@ pub fn rdoq_window_len(covered_blocks: usize) -> Window
     Window {
         length: smaller(smaller(64 * covered_blocks, 1024), 63 * covered_blocks),
         restoring: smaller(24 * covered_blocks, 256),
+    }
+}
+
+// The lengths under a cap on the positions.
+pub fn window_under(cap: usize, covered_blocks: usize) -> Window
+    requires { ⌜ «covered_blocks» ≤ 1024 ⌝ }
+    ensures { λ r. ⌜ r ≡ windowFor cap «covered_blocks» ⌝ }
+{
+    let whole = rdoq_window_len(covered_blocks);
+    let length = smaller(cap, whole.length);
+    Window {
+        length,
+        restoring: smaller(whole.restoring, length),
     }
 }
 

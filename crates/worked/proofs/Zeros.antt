@@ -5,7 +5,7 @@ use mathlib.Core.Path.{_≡_, refl, ap, _∙_, subst, subst⁻¹}
 use mathlib.Core.Bool.{true, _&&_}
 use mathlib.Core.List.{List, [], _∷_}
 use native.Mathlib.Omega.{arith}
-use lib.Dec.{T, ltb, leb, eqb}
+use lib.Dec.{T, ltb, leb, eqb, lit≤}
 use lib.IntN.{ℤ, pos, negsuc}
 use lib.ListN.{length, getD, replicate, length-replicate, getD-replicate}
 use lib.Ieee.Fits.{add-fits}
@@ -43,6 +43,8 @@ use Rattle.problem.proofs.Problem.{sound}
 use Rattle.problem.proofs.Main as Least
 use Rattle.problem.specs.Tokens.{needsInfinite}
 use Rattle.weights.specs.Window.{windowOf}
+use Rattle.weights.specs.declared.Window.{Window}
+use Rattle.weights.proofs.Lengths.{whole-window}
 use Rattle.worked.specs.Cases.{whole, never, checked, zeros, blockWith}
 
 -- ---- the book passes checks 1 to 6
@@ -77,7 +79,8 @@ unfolding blockRefusal formChecks contentChecks firstRefused strategyCovered che
 zeros-pass = refl
 
 zeros-passed : Passed (windowOf (covered zeros)) zeros
-zeros-passed = passed zeros zeros-pass
+zeros-passed =
+    subst (λ (v : Window). blockRefusal v zeros 0 ≡ 0 → Passed v zeros) (whole-window (covered zeros)) (passed 1024 zeros (lit≤ tt)) zeros-pass
 
 -- the problem, every symbol at price x
 abbrev pub problemAt : Float → Problem

@@ -25,8 +25,8 @@ returns-2 c =
     at12 _ _ (held (eleven _ (c .before .before .before .each-once .ensures)) (c .before .before .if1 .left))
     (failed (twelve _ (c .before .before .before .before .covered-blocks .ensures) (c .before .levels-within .ensures)) (c .if2 .taken))
 
-rdoq-window-len-requires : tie.Need-rdoq-window-len-requires
-rdoq-window-len-requires c κs =
+window-under-requires : tie.Need-window-under-requires
+window-under-requires c κs =
     few _ (c .before .before .before .before .before .before .before .before .pre) (c .before .before .before .before .covered-blocks .ensures)
 
 ideals-within-requires : tie.Need-ideals-within-requires
@@ -34,7 +34,7 @@ ideals-within-requires c κs =
     let ok = c .before .before .before .before .before .before .before .before .before .pre in
     let blocks = c .before .before .before .before .before .covered-blocks .ensures in (
       scanned _ ok blocks (held (c .before .before .before .before .each-once .ensures) (c .before .before .before .if1 .left)),
-      (window-held _ ok blocks (c .rdoq-window-len .ensures), (source-held _ ok blocks, inverse-held _ ok blocks)),
+      (window-held _ ok blocks _ (c .window-under .ensures), (source-held _ ok blocks, inverse-held _ ok blocks)),
     )
 
 returns-3 : tie.Need-returns-3
@@ -42,14 +42,14 @@ returns-3 c =
     let blocks = c .before .before .before .before .before .before .before .covered-blocks .ensures in
     passes _ _ (held (eleven _ (c .before .before .before .before .before .before .each-once .ensures)) (c .before .before .before .before .before .if1 .left))
     (held (twelve _ blocks (c .before .before .before .before .levels-within .ensures)) (c .before .before .before .if2 .left))
-    (sym (thirteen _ blocks (c .before .before .rdoq-window-len .ensures) (c .before .ideals-within .ensures)) ∙ c .if3 .taken)
+    (sym (thirteen _ blocks _ (c .before .before .window-under .ensures) (c .before .ideals-within .ensures)) ∙ c .if3 .taken)
 
 returns-4 : tie.Need-returns-4
 returns-4 c =
     let blocks = c .before .before .before .before .before .before .before .covered-blocks .ensures in
     at13 _ _ (held (eleven _ (c .before .before .before .before .before .before .each-once .ensures)) (c .before .before .before .before .before .if1 .left))
     (held (twelve _ blocks (c .before .before .before .before .levels-within .ensures)) (c .before .before .before .if2 .left))
-    (sym (thirteen _ blocks (c .before .before .rdoq-window-len .ensures) (c .before .ideals-within .ensures)) ∙ c .if3 .left)
+    (sym (thirteen _ blocks _ (c .before .before .window-under .ensures) (c .before .ideals-within .ensures)) ∙ c .if3 .left)
 
 pub check-content-spec : {M : Type 1} → statement M
 check-content-spec =
@@ -60,7 +60,7 @@ check-content-spec =
     returns
     levels-within-requires
     returns-2
-    rdoq-window-len-requires
+    window-under-requires
     ideals-within-requires
     returns-3
     returns-4)

@@ -19,7 +19,7 @@ use Rattle.costs.proofs.infinity.Reads as infinity-reads
 
 abbrev Inv-loop : tie.InvT-loop
 Inv-loop clusters map configs symbols ready plan kept best₀ j₀ j-end best j =
-    (j-end ≡ kept .count) × ((j ≤ j-end) × ((b : Block) → Planned b plan → PathsFor (paths (bookOf clusters map configs symbols ready) b 0) kept → Sofar (problem (bookOf clusters map configs symbols ready) b) (paths (bookOf clusters map configs symbols ready) b 0) j best))
+    (j-end ≡ kept .count) × ((j ≤ j-end) × ((b : Block) → Planned b plan → PathsFor (paths (plan .window) (bookOf clusters map configs symbols ready) b 0) kept → Sofar (problem (plan .window) (bookOf clusters map configs symbols ready) b) (paths (plan .window) (bookOf clusters map configs symbols ready) b 0) j best))
 
 abbrev μ-loop : tie.MeasureT-loop
 μ-loop clusters map configs symbols ready plan kept best₀ j₀ j-end best j =
@@ -52,7 +52,7 @@ loop-again c =
 returns : tie.Need-returns Inv-loop μ-loop
 returns c =
     let inv = c .before .loop .inv in
-    λ b w F. sofar-end _ b (omega (arith, F .count-is, inv .0, c .loop-test .left)) (inv .1 .1 b w F)
+    λ b w F. sofar-end _ _ b (omega (arith, F .count-is, inv .0, c .loop-test .left)) (inv .1 .1 b w F)
 
 pub best-path-spec : {M : Type 1} → statement M
 best-path-spec =

@@ -41,7 +41,7 @@ count-cost-requires c κs =
     (pre .0 .priced, (pre .0 .coded, omega (arith, pre .0 .counts _ (pre .1), pre .1, pre .0 .few)))
 
 returns : tie.Need-returns
-returns c = λ b xs w F. total-here _ b xs _ _ _ _ w F (c .before .before .before .before .before .before .before .before .pre .1) (c .before .before .first-prev .ensures) (c .count-cost .ensures b w)
+returns c = λ b xs w F. total-here _ _ b xs _ _ _ _ w F (c .before .before .before .before .before .before .before .before .pre .1) (c .before .before .first-prev .ensures) (c .count-cost .ensures b w)
 
 pub total-of-spec : {M : Type 1} → statement M
 total-of-spec =

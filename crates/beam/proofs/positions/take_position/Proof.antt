@@ -1,7 +1,8 @@
 use mathlib.Core.Path.{refl}
 use native.Mathlib.Omega.{arith}
 use Rattle.steps.proofs.Zero.{handed-current, current-back}
-use Rattle.beam.proofs.Taking.{base-few, position-few, window-few, readable-now, spotted-now, takeable, stepped-here}
+use Rattle.beam.proofs.Taking.{readable-now, spotted-now, takeable, stepped-here}
+use Rattle.search_checks.proofs.Checked.{base-short, position-few, window-few}
 use borrow.Author.Needs.{needs}
 use Rattle.beam.proofs.positions.take_position.Statement.{statement}
 use Rattle.beam.proofs.positions.take_position.Tie as tie
@@ -19,7 +20,7 @@ place-requires c κs =
     let w = pre .0 in
     let h = pre .1 .0 w .0 in
     let offer = c .before .offer in
-    (base-few (w .checked), (position-few (w .checked) _ h, handed-current _ (offer .result .level) (offer .ensures .1 .1) (readable-now w _ h .level)))
+    (base-short (w .checked), (position-few (w .checked) _ h, handed-current _ (offer .result .level) (offer .ensures .1 .1) (readable-now w _ h .level)))
 
 take-step-requires : tie.Need-take-step-requires
 take-step-requires c κs =

@@ -4,7 +4,8 @@ use native.Mathlib.Omega.{arith}
 use native.Mathlib.Nat.{le-refl}
 use lib.ListN.{length}
 use Rattle.prices.specs.Book.{bookOf}
-use Rattle.beam.specs.Held.{Searched, Reached}
+use Rattle.search_checks.specs.Checked.{Searched}
+use Rattle.beam.specs.Held.{Reached}
 use Rattle.beam.proofs.Turns.{reached-start, behind-here, in-window, reached-more}
 use borrow.Author.Needs.{needs}
 use Rattle.beam.proofs.positions.take_positions.Statement.{statement}
@@ -15,7 +16,7 @@ use Rattle.beam.proofs.positions.take_position.Reads as take-position-r
 
 abbrev Inv-loop : tie.InvT-loop
 Inv-loop clusters map configs symbols ready scan source inv-qm levels plan choices₀ paths₀ i₀ choices paths i =
-    (i ≤ plan .window .length) × ((length choices ≡ length choices₀) × ((w : Searched (bookOf clusters map configs symbols ready) scan source inv-qm levels plan) → Reached (bookOf clusters map configs symbols ready) (w .block) i choices paths))
+    (i ≤ plan .window .length) × ((length choices ≡ length choices₀) × ((w : Searched (bookOf clusters map configs symbols ready) scan source inv-qm levels plan) → Reached (plan .window) (bookOf clusters map configs symbols ready) (w .block) i choices paths))
 
 abbrev μ-loop : tie.MeasureT-loop
 μ-loop clusters map configs symbols ready scan source inv-qm levels plan choices₀ paths₀ i₀ choices paths i =

@@ -29,8 +29,8 @@ fine-block-context-requires c κs = search needs
 log2-covered-requires : tie.Need-log2-covered-requires
 log2-covered-requires c κs = search needs
 
-rdoq-window-len-requires : tie.Need-rdoq-window-len-requires
-rdoq-window-len-requires c κs = let pre = c .before .before .before .before .before .before .pre .0 in sides-most _ _ (pre .0) (pre .1)
+window-under-requires : tie.Need-window-under-requires
+window-under-requires c κs = let pre = c .before .before .before .before .before .before .pre .0 in sides-most _ _ (pre .0) (pre .1)
 
 base-len-requires : tie.Need-base-len-requires
 base-len-requires c κs = let pre = c .before .before .before .before .before .before .before .pre .0 in sides-most _ _ (pre .0) (pre .1)
@@ -38,8 +38,8 @@ base-len-requires c κs = let pre = c .before .before .before .before .before .b
 fine-zero-density-contexts-offset-requires : tie.Need-fine-zero-density-contexts-offset-requires
 fine-zero-density-contexts-offset-requires c κs = search needs
 
-cast-t8 : tie.Need-cast-t8
-cast-t8 c = search needs
+cast-t9 : tie.Need-cast-t9
+cast-t9 c = search needs
 
 cast-fine-non-zero-context : tie.Need-cast-fine-non-zero-context
 cast-fine-non-zero-context c = search needs
@@ -47,8 +47,8 @@ cast-fine-non-zero-context c = search needs
 fine-non-zero-context-requires : tie.Need-fine-non-zero-context-requires
 fine-non-zero-context-requires c κs = search needs
 
-cast-t14 : tie.Need-cast-t14
-cast-t14 c = search needs
+cast-t15 : tie.Need-cast-t15
+cast-t15 c = search needs
 
 channel-scale-requires : tie.Need-channel-scale-requires
 channel-scale-requires c κs = search needs
@@ -67,7 +67,6 @@ returns c =
       record {
         covered-is = refl;
         covers = covers;
-        window-is = c .before .before .before .before .before .before .rdoq-window-len .ensures;
         base-is = c .before .before .before .before .before .base-len .ensures;
         offset-is = offset .0 ∙ ap fineZeroDensityContextsOffset block;
         count-is = count .0 ∙ ap (fineNonZeroContext (start .args .shape .predicted)) block;
@@ -78,7 +77,7 @@ returns c =
         restore-is = c .restore-rate .ensures;
         source-is = refl;
       },
-      record { covers = covers; offset = omega (arith, offset .1); count = omega (arith, count .1) },
+      (record { covers = covers; offset = omega (arith, offset .1); count = omega (arith, count .1) }, c .before .before .before .before .before .before .window-under .ensures),
     )
 
 pub plan-of-spec : {M : Type 1} → statement M
@@ -92,13 +91,13 @@ plan-of-spec =
     cast-fine-block-context-2
     fine-block-context-requires
     log2-covered-requires
-    rdoq-window-len-requires
+    window-under-requires
     base-len-requires
     fine-zero-density-contexts-offset-requires
-    cast-t8
+    cast-t9
     cast-fine-non-zero-context
     fine-non-zero-context-requires
-    cast-t14
+    cast-t15
     channel-scale-requires
     restore-rate-requires
     returns)

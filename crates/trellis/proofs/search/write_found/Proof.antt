@@ -16,8 +16,8 @@ write-levels-requires c κs =
     let d = c .before .before .before .before .before .before .before .before .pre in
     walkable d (holds d (tested d (c .before .before .before .infinity .ensures) (c .before .if1 .taken)))
 
-cast-t13 : tie.Need-cast-t13
-cast-t13 c =
+cast-t14 : tie.Need-cast-t14
+cast-t14 c =
     let d = c .before .before .before .before .before .before .before .before .before .before .before .pre in
     omega (arith, count-few d (tested d (c .before .before .before .before .before .before .infinity .ensures) (c .before .before .before .before .if1 .taken)))
 
@@ -39,4 +39,4 @@ returns-2 c =
 pub write-found-spec : {M : Type 1} → statement M
 write-found-spec =
     tie.close
-    (tie.spec infinity-requires write-levels-requires cast-t13 same-length returns returns-2)
+    (tie.spec infinity-requires write-levels-requires cast-t14 same-length returns returns-2)

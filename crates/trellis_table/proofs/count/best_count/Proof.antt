@@ -1,5 +1,6 @@
-use Rattle.trellis_table.proofs.Totals.{Sofar, sofar-start, sofar-more, sofar-end, count-few, some-window, counts-some}
-use Rattle.trellis_table.specs.Rows.{problem}
+use Rattle.trellis_table.proofs.Totals.{Sofar, sofar-start, sofar-more, sofar-end, count-few, counts-some}
+use Rattle.search_checks.proofs.Checked.{window-some}
+use Rattle.block.specs.Band.{problemOf}
 use Rattle.block.specs.Block.{blockOf}
 use Rattle.prices.specs.Book.{bookOf}
 use native.Mathlib.Nat.{le-refl}
@@ -11,11 +12,11 @@ use Rattle.trellis_table.proofs.count.best_count.Statement.{statement}
 use Rattle.trellis_table.proofs.count.best_count.Tie as tie
 
 abbrev Inv-loop : tie.InvT-loop
-Inv-loop clusters map configs symbols ready shape settings bias scale scan source inv-qm levels plan live counts most best₀ n₀ best n =
-    ((counts .least ≤ n) × (n ≤ counts .most + 1)) × Sofar (problem (bookOf clusters map configs symbols ready) (blockOf shape settings bias scale scan source inv-qm levels)) n (counts .most + 1 - n) best
+Inv-loop clusters map configs symbols ready shape settings bias scale scan source inv-qm levels plan live counts width most best₀ n₀ best n =
+    ((counts .least ≤ n) × (n ≤ counts .most + 1)) × Sofar (problemOf width (plan .window) (bookOf clusters map configs symbols ready) (blockOf shape settings bias scale scan source inv-qm levels)) n (counts .most + 1 - n) best
 
 abbrev μ-loop : tie.MeasureT-loop
-μ-loop clusters map configs symbols ready shape settings bias scale scan source inv-qm levels plan live counts most best₀ n₀ best n = counts .most + 1 - n
+μ-loop clusters map configs symbols ready shape settings bias scale scan source inv-qm levels plan live counts width most best₀ n₀ best n = counts .most + 1 - n
 
 infinity-requires : tie.Need-infinity-requires Inv-loop μ-loop
 infinity-requires c κs = search needs
@@ -23,7 +24,7 @@ infinity-requires c κs = search needs
 loop-holds : tie.Need-loop-holds Inv-loop μ-loop
 loop-holds c =
     let pre = c .before .before .before .before .before .before .before .before .before .pre in
-    ((le-refl _, counts-some (pre .0) _ (pre .1 .1 .0)), sofar-start _ _ _ (pre .1 .1 .0) (some-window (pre .0)) _ (c .infinity .ensures))
+    ((le-refl _, counts-some (pre .0) _ (pre .1 .1 .0)), sofar-start _ _ _ _ _ (pre .1 .1 .0) (window-some (pre .0 .checked)) _ (c .infinity .ensures))
 
 total-of-requires : tie.Need-total-of-requires Inv-loop μ-loop
 total-of-requires c κs =

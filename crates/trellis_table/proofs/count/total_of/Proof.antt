@@ -1,4 +1,5 @@
-use Rattle.trellis_table.proofs.Totals.{covered-few, count-few, total-is, bit-few}
+use Rattle.trellis_table.proofs.Totals.{count-few, total-is}
+use Rattle.search_checks.proofs.Checked.{covered-few, bit-few}
 use native.Mathlib.Omega.{arith}
 use Prim.Native.Nat.{ℕ, _≤_, _*_, _/_}
 use lib.Dec.{leb}
@@ -8,7 +9,7 @@ use Rattle.trellis_table.proofs.count.total_of.Statement.{statement}
 use Rattle.trellis_table.proofs.count.total_of.Tie as tie
 
 first-prev-requires : tie.Need-first-prev-requires
-first-prev-requires c κs = covered-few (c .before .before .before .before .before .before .before .before .pre .0)
+first-prev-requires c κs = covered-few (c .before .before .before .before .before .before .before .before .pre .0 .checked)
 
 sub-at : tie.Need-sub-at
 sub-at c = search needs
@@ -35,12 +36,12 @@ shared-slice-read-result c =
     omega (arith, pre .1 .0 .narrow, pre .1 .1 .1 .0, pre .1 .1 .1 .1 .0, pre .1 .1 .1 .1 .1)
 
 count-cost-requires : tie.Need-count-cost-requires
-count-cost-requires c κs = let pre = c .before .before .before .before .before .before .before .before .before .before .before .pre in (pre .0 .book-passed, (pre .0 .coded, count-few (pre .0) _ (pre .1 .1 .0) _ (pre .1 .1 .1 .1 .1)))
+count-cost-requires c κs = let pre = c .before .before .before .before .before .before .before .before .before .before .before .pre in (pre .0 .checked .book-passed, (pre .0 .checked .coded, count-few (pre .0) _ (pre .1 .1 .0) _ (pre .1 .1 .1 .1 .1)))
 
 returns : tie.Need-returns
 returns c =
     let pre = c .before .before .before .before .before .before .before .before .before .before .before .before .pre in
-    total-is (pre .0) _ _ (pre .1 .0) _ _ _ (pre .1 .1 .1 .1 .0) (pre .1 .1 .1 .1 .1) (c .before .before .before .first-prev .ensures) (c .count-cost .ensures _ (pre .0 .planned))
+    total-is (pre .0) _ _ (pre .1 .0) _ _ _ (pre .1 .1 .1 .1 .0) (pre .1 .1 .1 .1 .1) (c .before .before .before .first-prev .ensures) (c .count-cost .ensures _ (pre .0 .checked .planned))
 
 pub total-of-spec : {M : Type 1} → statement M
 total-of-spec =

@@ -1,8 +1,8 @@
 use Rattle.trellis_table.proofs.Turns.{from-first, from-second, after-back, to-first, to-second}
 use native.Mathlib.Nat.{le-refl}
 use Rattle.trellis_table.proofs.Turns.{rowed-start, chosen-more}
-use Rattle.trellis_table.proofs.Steps.{window-is}
-use Rattle.trellis_table.specs.Rows.{windowLength, Rowed, Kept}
+use Rattle.trellis_table.proofs.Steps.{last-room}
+use Rattle.trellis_table.specs.Rows.{Rowed, Kept}
 use Rattle.block.specs.Block.{blockOf}
 use Rattle.prices.specs.Book.{bookOf}
 use lib.ListN.{length}
@@ -14,16 +14,16 @@ use Rattle.trellis_table.proofs.exchange.take_positions.Statement.{stat
 use Rattle.trellis_table.proofs.exchange.take_positions.Tie as tie
 
 abbrev Inv-loop : tie.InvT-loop
-Inv-loop clusters map configs symbols ready shape settings bias scale scan source inv-qm levels plan past first₀ second₀ choices₀ step₀ in-first₀ i₀ first second choices step in-first i =
-    (i ≤ windowLength (blockOf shape settings bias scale scan source inv-qm levels)) × (Rowed (bookOf clusters map configs symbols ready) (blockOf shape settings bias scale scan source inv-qm levels) i first second choices step in-first × Kept first₀ first second₀ second choices₀ choices)
+Inv-loop clusters map configs symbols ready shape settings bias scale scan source inv-qm levels plan past first₀ second₀ choices₀ width step₀ in-first₀ i₀ first second choices step in-first i =
+    (i ≤ plan .window .length) × (Rowed width (plan .window) (bookOf clusters map configs symbols ready) (blockOf shape settings bias scale scan source inv-qm levels) i first second choices step in-first × Kept first₀ first second₀ second choices₀ choices)
 
 abbrev μ-loop : tie.MeasureT-loop
-μ-loop clusters map configs symbols ready shape settings bias scale scan source inv-qm levels plan past first₀ second₀ choices₀ step₀ in-first₀ i₀ first second choices step in-first i = i
+μ-loop clusters map configs symbols ready shape settings bias scale scan source inv-qm levels plan past first₀ second₀ choices₀ width step₀ in-first₀ i₀ first second choices step in-first i = i
 
 loop-holds : tie.Need-loop-holds Inv-loop μ-loop
 loop-holds c =
     let pre = c .before .before .before .before .before .before .before .before .before .before .before .pre in
-    rw (window-is (pre .0)) (le-refl _, (rowed-start _ _ _ _ _ _ (pre .1 .0) (pre .1 .1 .0), record { first = refl; second = refl; choices = refl }))
+    (le-refl _, (rowed-start _ _ _ _ _ _ _ _ (pre .1 .0) (pre .1 .1 .0), record { first = refl; second = refl; choices = refl }))
 
 sub-i : tie.Need-sub-i Inv-loop μ-loop
 sub-i c = search needs
@@ -42,7 +42,7 @@ take-position-requires c κs =
           after-back some (inv .1 .0),
           (
             pre .1 .0,
-            (from-first some (inv .1 .0) (c .before .before .before .if1 .taken), (rw (inv .1 .1 .first) (rooms .0), (rw (inv .1 .1 .second) (rooms .1 .0), omega (arith, inv .1 .1 .choices, rooms .1 .1, inv .0)))),
+            (from-first some (inv .1 .0) (c .before .before .before .if1 .taken), (rw (inv .1 .1 .first) (rooms .0), (rw (inv .1 .1 .second) (rooms .1 .0), rw (inv .1 .1 .choices) (last-room _ _ _ _ some (inv .0) (rooms .1 .1))))),
           ),
         ),
       ),
@@ -77,7 +77,7 @@ take-position-requires-2 c κs =
           after-back some (inv .1 .0),
           (
             pre .1 .0,
-            (from-second some (inv .1 .0) (c .before .before .before .if1 .left), (rw (inv .1 .1 .second) (rooms .1 .0), (rw (inv .1 .1 .first) (rooms .0), omega (arith, inv .1 .1 .choices, rooms .1 .1, inv .0)))),
+            (from-second some (inv .1 .0) (c .before .before .before .if1 .left), (rw (inv .1 .1 .second) (rooms .1 .0), (rw (inv .1 .1 .first) (rooms .0), rw (inv .1 .1 .choices) (last-room _ _ _ _ some (inv .0) (rooms .1 .1))))),
           ),
         ),
       ),

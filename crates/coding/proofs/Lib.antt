@@ -1,0 +1,2 @@
+mod Returns
+pub mod Passed

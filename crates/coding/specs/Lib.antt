@@ -1,0 +1,2 @@
+-- How tokens are coded, without what they cost.
+pub mod Coding

@@ -1,0 +1,4 @@
+pub mod Checked
+pub mod Starting
+pub mod Refusing
+pub mod Writing

@@ -1,0 +1,2 @@
+mod Calls
+pub mod Main

@@ -1,0 +1,2 @@
+-- A tally after any run of calls.
+pub mod Runs
