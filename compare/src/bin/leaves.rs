@@ -419,7 +419,7 @@ fn price_calls() -> [Tally; 2] {
 }
 
 /// Adds tokens to a tally, or takes them out.
-fn count(add: bool, book: &Book, contexts: &[u32], values: &[u32], counts: &mut [u32], extra: &mut u64) -> u32 {
+fn count(add: bool, book: &data::Book, contexts: &[u32], values: &[u32], counts: &mut [u32], extra: &mut u64) -> u32 {
     let call = if add { rdoq_tally_add } else { rdoq_tally_remove };
     unsafe {
         call(
