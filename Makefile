@@ -2,6 +2,8 @@
 # make run        the main program on a sample
 # make library    the static library for C and Rust, target/staticlib/librdoq_c.a
 # make bindings   the static library, the C example and the tests of the Rust crate
+# make fuzz CALLS=10000000 SEED=1
+#                 searches on arrays at the edge of pages that can't be touched, right and damaged; make bindings runs a short one
 # make compare N=1000 CLASSES=1,2 SEED=1 WITHOUT=beam
 #                 the leaf calls, and N blocks of each size class, by the Rust and by this port (compare/README.md says what is compared)
 # make bench PASSES=31
@@ -27,7 +29,7 @@ PASSES ?= 31
 JIXEL_SRC ?= $(abspath ../shared/docs/src)
 export JIXEL_SRC
 
-.PHONY: test run library bindings compare bench
+.PHONY: test run library bindings fuzz compare bench
 
 # rt's closing line, 'N passed, 0 failed', is kept back and printed last.
 test:
@@ -61,12 +63,22 @@ bindings: library
 	@if command -v gcc > /dev/null; then \
 	    $(CC_STRICT) -o target/example_c bindings/c/example.c $(STATICLIB) -lm && target/example_c && \
 	    $(CC_STRICT) -o target/quick_start_c bindings/c/quick_start.c $(STATICLIB) && target/quick_start_c && \
+	    $(CC_STRICT) -o target/rounding_c bindings/c/rounding.c $(STATICLIB) -lm && target/rounding_c && \
+	    $(CC_STRICT) -pthread -o target/stack_c bindings/c/stack.c $(STATICLIB) && target/stack_c && \
+	    $(CC_STRICT) -O1 -o target/fuzz_c bindings/c/fuzz.c $(STATICLIB) && target/fuzz_c 100000 && \
 	    echo 'bindings: the C programs answer as they should'; \
 	else echo 'bindings: no gcc here: the C programs are left out'; fi
 	@if command -v cargo > /dev/null; then \
 	    (cd bindings/rust && cargo test --offline && cargo run --quiet --offline --example quick_start) && \
 	    echo 'bindings: the tests of the Rust crate pass'; \
 	else echo 'bindings: no cargo here: the tests of the Rust crate are left out'; fi
+
+# Overrides for fuzz: see the top.
+CALLS ?= 10000000
+
+fuzz: library
+	@$(CC_STRICT) -O1 -o target/fuzz_c bindings/c/fuzz.c $(STATICLIB)
+	@target/fuzz_c $(CALLS) $(SEED)
 
 compare: library
 	@command -v cargo > /dev/null || { echo 'make compare needs cargo, and the Rust in the folder that JIXEL_SRC names'; exit 2; }

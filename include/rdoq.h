@@ -5,7 +5,7 @@
  *
  *     make library               writes target/staticlib/librdoq_c.a
  *
- * and link that archive. It needs nothing but memset. x86-64 Linux only.
+ * and link that archive. It needs memset and memcpy, and nothing else. x86-64 Linux only.
  *
  * Every call
  *   - returns a code: 0 where it answers, else the number of the refusal (below);
@@ -14,8 +14,10 @@
  *     once, on any threads, as long as none of them writes to memory that another is lent.
  *
  * An array is a pointer and its length in elements. The pointer is aligned for its type and points to at least that many elements.
- * The arrays and variables that a call writes to overlap nothing else that it is lent. A bool is 0 or 1. These are the only duties
- * of a caller: wrong lengths and wrong contents are refused by number.
+ * The arrays and variables that a call writes to overlap nothing else that it is lent. A bool is 0 or 1. A pointer whose length is 0 may be
+ * NULL. The thread has RDOQ_STACK_BYTES of stack left. Floating point is as a C program starts: rounding to nearest, subnormal numbers
+ * kept. (-ffast-math may flush them to zero at start-up, and with it a rightly filled book may get 6.) These are the only duties of a
+ * caller: wrong lengths and wrong contents are refused by number.
  *
  * Refusals. The first check that fails is answered. A search makes its checks in this order: `search` names one (17), 1 to 9, 18,
  * 10 to 14; then the trellis may find 15, the beam 16. The builder of a prefix code makes 1 and 2, that of an ANS code 1, 2 and 19,
@@ -103,6 +105,7 @@ extern "C" {
 #define RDOQ_BIAS_NUMERATOR 0.145f
 #define RDOQ_STORE_RUNS 1024u     /* block numbers of a store */
 #define RDOQ_STORE_RECORD 3073u   /* numbers of its record */
+#define RDOQ_STACK_BYTES 16384u   /* no call takes more of its thread's stack */
 
 /*
  * A price book is lent in five parts that the caller keeps:

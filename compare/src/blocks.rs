@@ -110,6 +110,16 @@ pub fn empty_block() -> Block {
     }
 }
 
+/// A block whose rounding buys nearly all that it may (document 02, ticket 13), for a book whose prices are all 0: beside the last position's distortion, whose ulp
+/// is 0.25, a 2 costs as much as a 1 everywhere, and the 2 is tried first.
+pub fn nearly_off() -> Block {
+    let mut block = Block { lambda: 2f32.powi(-20), one: 0.9616, ..empty_block() };
+    for at in 1..64 {
+        (block.source[at], block.levels[at]) = if at == 63 { (1448.155, 0) } else { (block.one + 0.3537, 2) };
+    }
+    block
+}
+
 fn settings(random: &mut Random, block: &mut Block) {
     let two = |n: i32| 2f32.powi(n);
     let third = random.between(-8.0, 8.0).exp2();

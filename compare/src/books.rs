@@ -94,6 +94,14 @@ fn price(random: &mut Random, kind: usize) -> f32 {
 }
 
 /// The ready prices that check 6 asks for.
+/// One cluster with split 6,2,0, in which every value up to 63 costs 0.
+pub fn free_of_cost() -> Book {
+    let mut book = Book { clusters: 1, map: vec![0; 14850], configs: vec![6, 2, 0], ..Book::default() };
+    book.symbols = vec![0.0; 128];
+    fill_ready(&mut book);
+    book
+}
+
 pub fn fill_ready(book: &mut Book) {
     let price = |at: usize| cluster_price(book, at / 256, (at % 256) as u32);
     book.ready = (0..256 * book.configs.len() / 3).map(price).collect();

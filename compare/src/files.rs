@@ -209,7 +209,8 @@ fn untrained(later: bool) -> Book {
 
 /// Examples of a search: of document 01 an all-zero block, every symbol at price 1 and then at +infinity, and a block with coefficients that are not numbers
 /// between two good ones; and two blocks whose counts lie in a cluster that nobody trained, which the trellis refused with 15 while that cluster cost
-/// +infinity throughout; a good block under 5,2,2 and 6,3,3, and one with a level of 100, for which 6,3,3 has no word.
+/// +infinity throughout; a good block under 5,2,2 and 6,3,3, and one with a level of 100, for which 6,3,3 has no word. Last, the
+/// block whose rounding buys nearly all that it may (ticket 13).
 fn examples() -> Vec<(Book, Vec<Block>)> {
     let zeros = Block { lambda: 3.0, channel: 1, ..blocks::empty_block() };
     let mut good = zeros.clone();
@@ -227,6 +228,7 @@ fn examples() -> Vec<(Book, Vec<Block>)> {
         (untrained(true), vec![zeros, good.clone()]),
         (split_by([5, 2, 2], |symbol| 0.5 + 0.25 * symbol as f32), vec![good.clone()]),
         (split_by([6, 3, 3], |symbol| 0.5 + 0.25 * symbol as f32), vec![good, far]),
+        (books::free_of_cost(), vec![blocks::nearly_off()]),
     ]
 }
 

@@ -79,6 +79,18 @@ impl Original {
     }
 }
 
+/// Holds the levels that the trellis wrote to the bound on exact sums, beside the input's levels and greedy's and the beam's where they lie in the band.
+fn far_from_exact(problem: &mut Problem, block: &Block, written: &[i32]) -> Option<String> {
+    let Some(terms) = problem.terms(written) else {
+        return Some("the levels written have an infinite term".to_string());
+    };
+    let others = [block.levels.clone(), problem.run(Search::Greedy).levels, problem.run(Search::Beam).levels];
+    others.iter().filter(|levels| problem.in_band(levels)).find_map(|levels| {
+        let far = problem.terms(levels).is_some_and(|others| !crate::exact::near(&terms, &others, problem.w));
+        far.then(|| "an exact sum in the band is less than the bound of ticket 13 allows".to_string())
+    })
+}
+
 pub fn due(original: &mut Original, search: Search, book: &Book, block: &Block) -> Due {
     let untouched = |number: u32| Outcome { reply: Reply::Refused(number), levels: block.levels.clone() };
     let number = refusal(search, book, block);
@@ -107,6 +119,11 @@ pub fn due(original: &mut Original, search: Search, book: &Book, block: &Block) 
         _ => Reply::Cost { bits: cost.to_bits(), count },
     };
     let outcome = Outcome { reply, levels };
+    if search == Search::Trellis {
+        if let Some(fault) = far_from_exact(&mut problem, block, &outcome.levels) {
+            return Due { outcome, source: Source::Rust, fault: Some(fault), tie };
+        }
+    }
     let fault = (outcome != plain).then(|| {
         let told = |it: &Outcome| format!("{}{}", it.reply, crate::report::changes(block, &it.levels));
         format!("the plain definitions give\n    {}\n  the Rust\n    {}", told(&plain), told(&outcome))

@@ -6,6 +6,7 @@ mod books;
 mod checks;
 mod damage;
 mod data;
+mod exact;
 mod files;
 mod judge;
 mod plain;
@@ -262,6 +263,7 @@ fn main() -> std::process::ExitCode {
         }
     };
     judge::quiet_panics();
+    exact::self_check();
     if let Some(folder) = &options.list {
         files::write_list(folder, options.seed);
         return 0.into();

@@ -367,6 +367,30 @@ impl<'a> Problem<'a> {
         (v + self.count_cost(n), n)
     }
 
+    /// The terms of the cost of these levels, each as it was rounded: the tail, the local costs, the count's price. None where a term is infinite.
+    pub fn terms(&self, levels: &[i32]) -> Option<Vec<f32>> {
+        let at = |i: usize| levels[self.block.scan[self.c + i] as usize];
+        let n = self.s + (0..self.w).map(|i| nz(at(i))).sum::<usize>();
+        let (mut r, mut terms) = (n, vec![self.tail[nz(at(self.w - 1))], self.count_cost(n)]);
+        for i in 0..self.w {
+            let p = if i == 0 { self.first_prev(n) } else { nz(at(i - 1)) };
+            terms.push(self.local(i, r, p, at(i)));
+            r -= nz(at(i));
+        }
+        terms.iter().all(|x| x.is_finite()).then_some(terms)
+    }
+
+    /// Whether these levels are a choice in the band: a candidate at each position, and the count of later nonzero levels near the input's.
+    pub fn in_band(&self, levels: &[i32]) -> bool {
+        let at = |i: usize| levels[self.block.scan[self.c + i] as usize];
+        let mut off = 0i64;
+        (0..self.w).rev().all(|i| {
+            let allowed = self.cand[i].contains(&at(i)) && off.unsigned_abs() as usize <= self.band();
+            off += nz(at(i)) as i64 - nz(self.input[self.c + i]) as i64;
+            allowed
+        })
+    }
+
     pub fn run(&mut self, search: Search) -> Outcome {
         match search {
             Search::Greedy => self.greedy(),

@@ -1,12 +1,13 @@
 -- The theorems of least cost, of a block's search problem, in document 01's words. The book passes checks 1 to 6 and the block 7 to 13; half-width and window are
 -- parameters, and document 01's are 6 and `windowOf c`. Assumes nothing.
-use mathlib.Core.Path.{_≡_, subst, subst⁻¹}
+use mathlib.Core.Path.{_≡_, ap, subst, subst⁻¹, _∙_}
 use mathlib.Core.Logic.{_↔_}
-use mathlib.Core.Bool.{Bool, false}
+use mathlib.Core.Bool.{Bool, true, false, not}
 use mathlib.Core.List.{List}
-use Prim.Native.Nat.{ℕ, _+_, _≤_}
+use Prim.Native.Nat.{ℕ, suc, _+_, _*_, _^_, _≤_}
 use lib.Dec.{T}
 use lib.IntN.{ℤ}
+use lib.ListN.{length}
 use lib.Ieee.{inf, le}
 use lib.Ieee.Scale.{finite}
 use Rattle.ac_context.specs.Contexts.{fineZeroDensityContextsOffset, zeroDensityContext}
@@ -15,6 +16,10 @@ use Rattle.block.specs.Block.{Block, covered, contextOf, inputRemaining, inputF
 use Rattle.block.specs.Cost.{tokenPrice}
 use Rattle.block.specs.Band.{problemOf}
 use Rattle.block_checks.specs.Passed.{Passed}
+use Rattle.exact.specs.Exact.{wholeExact}
+use Rattle.exact.proofs.Block.{block-floats}
+use Rattle.exact.proofs.Choices as Exact
+use Rattle.least_cost.proofs.Infinite.{whole-finite}
 use Rattle.least_cost.specs.Search.{countOf, wholeCost, leastTotal, Banded}
 use Rattle.least_cost.proofs.Whole.{Answer}
 use Rattle.least_cost.proofs.Main as Least
@@ -26,7 +31,7 @@ use Rattle.weights.specs.declared.Window.{Window}
 use Rattle.problem.specs.Tokens.{pastLength, needsInfinite}
 use Rattle.problem.proofs.Terms.{price-infinite}
 use Rattle.problem.proofs.Local.{packed-value}
-use Rattle.problem.proofs.Problem.{sound, capped-problem}
+use Rattle.problem.proofs.Problem.{sound, capped-problem, positions-length}
 use Rattle.problem.proofs.Tokens.{infinite-token}
 use Rattle.problem.proofs.Input.{input-banded, count-near}
 
@@ -49,6 +54,23 @@ module _ (w : ℕ) (v : Window) (book : Book) (ok : bookRefusal book ≡ 0) (b :
         λ e cs B. subst (λ (t : Bool). T t) (infinite-token book ok v b P w cs B) (h .0 e cs B),
         λ f. h .1 (λ cs B. subst⁻¹ (λ (t : Bool). T t) (infinite-token book ok v b P w cs B) (f cs B)),
       )
+
+  -- How far from the exact sum: of two choices in the band, the one that costs no more, rounded, has an exact cost that exceeds the other's by at most one part in 2^23 for
+  -- each of its sums. The other needs no token of infinite price.
+  positions-many : length (problemOf w v book b .positions) ≡ v .length
+  unfolding problemOf
+  positions-many = positions-length w v book b 0 (v .length)
+
+  pub near-exact : (cs ds : List ℤ) → Banded (problemOf w v book b) cs → Banded (problemOf w v book b) ds → T (le (wholeCost (problemOf w v book b) cs) (wholeCost (problemOf w v book b) ds))
+      → needsInfinite v book b ds ≡ false
+      → wholeExact (problemOf w v book b) cs * 16777215 ^ suc (v .length) ≤ wholeExact (problemOf w v book b) ds * 16777217 ^ suc (v .length)
+  near-exact cs ds C D h finite-price =
+      let p = problemOf w v book b in
+      let s = sound book ok v b P w in
+      let f : finite (wholeCost p ds) ≡ true =
+      whole-finite 194 (pastLength v b) p s (capped-problem book ok v b P w) ds D ∙ ap not (infinite-token book ok v b P w ds D ∙ finite-price) in
+      subst (λ (n : ℕ). wholeExact p cs * 16777215 ^ suc n ≤ wholeExact p ds * 16777217 ^ suc n) positions-many
+      (Exact.near-exact p s (block-floats book b w v) cs ds C D h (rw f tt))
 
   -- A token's price is infinite exactly where its symbol's is.
   pub token-infinite :

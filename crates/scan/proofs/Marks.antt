@@ -17,12 +17,12 @@ use Rattle.scan.specs.Scan.{countOf, eachOnce}
 use Rattle.scan.proofs.Counts.{count-next-here, count-next-other, count-empty, either, split}
 use Rattle.scan.proofs.Once.{once, bound, each-once}
 
-refuted : (b : Bool) → (b ≡ true → ⊥) → b ≡ false
+pub refuted : (b : Bool) → (b ≡ true → ⊥) → b ≡ false
 refuted true n = absurd (n refl)
 refuted false n = refl
 
 -- the entry x at k is not below the length
-past-end : (s : List ℕ) (k : ℕ) {x : ℕ} → k < length s → x ≡ getD s k 0 → length s ≤ x → eachOnce s ≡ false
+pub past-end : (s : List ℕ) (k : ℕ) {x : ℕ} → k < length s → x ≡ getD s k 0 → length s ≤ x → eachOnce s ≡ false
 past-end s k h here g = refuted _ (λ e. lt-irrefl (length s) (omega (arith, bound s e k h)))
 
 mark-none : markOf 0 ≡ 0

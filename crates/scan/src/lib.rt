@@ -1,6 +1,6 @@
 // Check 11: the scan holds each number below its length once.
 ghost use mathlib.Core.Path.{_≡_};
-ghost use Prim.Native.Nat.{ℕ, _<_, _≤_};
+ghost use Prim.Native.Nat.{ℕ, _*_, _<_, _≤_};
 ghost use lib.ListN.{length, getD};
 ghost use Rattle.scan.specs.Marks.{Marked, markedBelow};
 ghost use Rattle.scan.specs.Scan.{eachOnce};
@@ -67,6 +67,28 @@ fn marks_all(scan: &[u32], marks: &mut [u8]) -> bool
     false
 }
 
+// The same with 64 marks in a word, so that the longest scan's take 8 KiB of the stack. Stops at a number past the end or met before.
+fn mark_bits(scan: &[u32], words: &mut [u64]) -> bool
+    requires { ⌜ length (now scan) ≤ 64 * length (now words) ⌝ }
+    requires { ⌜ ((j : ℕ) → j < length (now words) → getD (now words) j 0 ≡ 0) ⌝ }
+    ensures { λ r. ⌜ r ≡ eachOnce (now (scan .entry)) ⌝ }
+{
+    let mut k = 0;
+    while k < scan.len() {
+        let x = wide(scan[k]);
+        if x >= scan.len() {
+            return false;
+        }
+        let word = words[x / 64];
+        if (word >> (x % 64)) % 2 != 0 {
+            return false;
+        }
+        words[x / 64] = word + (1 << (x % 64));
+        k += 1;
+    }
+    true
+}
+
 fn each_once_64(scan: &[u32]) -> bool
     requires { ⌜ length (now scan) ≤ 64 ⌝ }
     ensures { λ r. ⌜ r ≡ eachOnce (now (scan .entry)) ⌝ }
@@ -83,11 +105,11 @@ fn each_once_1024(scan: &[u32]) -> bool
     marks_all(scan, &mut marks)
 }
 
-fn each_once_16384(scan: &[u32]) -> bool
-    requires { ⌜ length (now scan) ≤ 16384 ⌝ }
+fn each_once_8192(scan: &[u32]) -> bool
+    requires { ⌜ length (now scan) ≤ 8192 ⌝ }
     ensures { λ r. ⌜ r ≡ eachOnce (now (scan .entry)) ⌝ }
 {
-    let mut marks = [0u8; 16384];
+    let mut marks = [0u8; 8192];
     marks_all(scan, &mut marks)
 }
 
@@ -95,11 +117,11 @@ fn each_once_65536(scan: &[u32]) -> bool
     requires { ⌜ length (now scan) ≤ 65536 ⌝ }
     ensures { λ r. ⌜ r ≡ eachOnce (now (scan .entry)) ⌝ }
 {
-    let mut marks = [0u8; 65536];
-    marks_all(scan, &mut marks)
+    let mut words: [u64; 1024] = [0; 1024];
+    mark_bits(scan, &mut words)
 }
 
-// A short scan clears few marks.
+// A short scan clears few marks. The longest takes bits, since every call pays for the pages of the largest frame.
 pub fn each_once(scan: &[u32]) -> bool
     requires { ⌜ length (now scan) ≤ 65536 ⌝ }
     ensures { λ r. ⌜ r ≡ eachOnce (now (scan .entry)) ⌝ }
@@ -110,8 +132,8 @@ pub fn each_once(scan: &[u32]) -> bool
     if scan.len() <= 1024 {
         return each_once_1024(scan);
     }
-    if scan.len() <= 16384 {
-        return each_once_16384(scan);
+    if scan.len() <= 8192 {
+        return each_once_8192(scan);
     }
     each_once_65536(scan)
 }

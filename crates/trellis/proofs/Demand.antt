@@ -24,6 +24,7 @@ use Rattle.least_cost.specs.Search.{Problem, Banded, countOf, wholeCost, leastT
 use Rattle.least_cost.proofs.Whole as Whole
 use Rattle.prices.specs.Book.{Book}
 use Rattle.prices.specs.Checks.{bookRefusal}
+use Rattle.problem.proofs.Main as Main
 use Rattle.problem.proofs.Main.{input-in-band, found}
 use Rattle.problem.proofs.Refusals.{NoOutcome, search-number, searched}
 use Rattle.problem.proofs.Written.{put-window, put-choice}
@@ -71,6 +72,9 @@ module _ (w : ℕ) (v : Window) (book : Book) (b : Block) (ok : bookRefusal book
           least-of-input = own;
           smallest = A .smallest;
           first-tried = read;
+          near-exact = λ levels B finite-price.
+              Main.near-exact w v book ok b P (windowLevels v b (least-levels w v book b)) levels (subst⁻¹ (Banded (problemOf w v book b)) read (A .banded)) B
+              (subst (λ (c : Float). T (le c (wholeCost (problemOf w v book b) levels))) (sym (A .costs) ∙ ap (wholeCost (problemOf w v book b)) (sym read)) (A .least levels B)) finite-price;
         }
 
   answered-least : LeastAnswered w v book b (written w v book b) (answered w v book b)

@@ -1,7 +1,8 @@
 -- Demand 3 of document 01, in its words: when the trellis refuses with 15, and what it answers and writes where it does not. The band's half-width w and the window v are
 -- parameters; document 01's are 6 and `windowOf c`.
-use Prim.Native.Nat.{ℕ, _<_}
+use Prim.Native.Nat.{ℕ, suc, _*_, _^_, _≤_, _<_}
 use mathlib.Core.Path.{_≡_}
+use mathlib.Core.Bool.{false}
 use mathlib.Core.Logic.{_↔_}
 use mathlib.Core.List.{List}
 use lib.Dec.{T}
@@ -14,6 +15,7 @@ use Rattle.block.specs.Choice.{IsChoice, windowLevels}
 use Rattle.block.specs.Outcome.{Lent, Result, RefusedKeeps}
 use Rattle.block.specs.declared.Answer.{Answer}
 use Rattle.block.specs.declared.Answer.the-variants.{Cost, Refused}
+use Rattle.exact.specs.Exact.{wholeExact}
 use Rattle.least_cost.specs.Search.{Banded, countOf, wholeCost, leastLevels}
 use Rattle.prices.specs.Book.{Book}
 use Rattle.problem.specs.Tokens.{needsInfinite}
@@ -43,6 +45,10 @@ pub record LeastCost (w : ℕ) (v : Window) (book : Book) (b : Block) (written :
   -- ties: a choice in the band with a smaller count costs more; and at each position, from the first on, the first of the least in the order of trial was taken
   pub smallest : (levels : List ℤ) → Banded (problemOf w v book b) levels → countOf (problemOf w v book b) levels < count → T (lt cost (wholeCost (problemOf w v book b) levels))
   pub first-tried : windowLevels v b written ≡ leastLevels (problemOf w v book b)
+  -- Rounding: by the exact sums of their terms (the tail past the window, each rounded local cost, the count's rounded price, as whole multiples of 2^-149), no choice of
+  -- finite price in the band is cheaper by more than its sums may be off: a part in 2^24 each way for each of W + 1 sums, W being the window's length.
+  pub near-exact : (levels : List ℤ) → Banded (problemOf w v book b) levels → needsInfinite v book b levels ≡ false
+      → wholeExact (problemOf w v book b) (windowLevels v b written) * 16777215 ^ suc (v .length) ≤ wholeExact (problemOf w v book b) levels * 16777217 ^ suc (v .length)
 
 abbrev pub LeastAnswered : ℕ → Window → Book → Block → List ℤ → Answer → Type 0
 LeastAnswered w v book b written answer = (cost : Float) (count : ℕ) → answer ≡ Cost cost count → LeastCost w v book b written cost count

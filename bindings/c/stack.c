@@ -1,0 +1,89 @@
+/*
+ * How much stack a call takes. Each search runs on blocks of every size, on a thread whose stack was painted before; what is no longer paint was used.
+ * Then all of them run on a thread that has RDOQ_STACK_BYTES and the margin that the thread itself needs. The exit status is 1 where a call takes more
+ * than RDOQ_STACK_BYTES.
+ */
+#define _GNU_SOURCE
+#include <pthread.h>
+#include <stdio.h>
+#include <stdlib.h>
+#include <string.h>
+#include <sys/mman.h>
+
+#include "rdoq.h"
+
+enum { PAINT = 0xa5, WHOLE = 1 << 20, MARGIN = 16384, LARGEST = 65536 };
+
+static uint8_t map[RDOQ_CONTEXTS];
+static const uint8_t configs[3] = {4, 2, 0};
+static float symbols[RDOQ_SYMBOLS], ready[RDOQ_READY];
+static uint8_t choices[RDOQ_TRELLIS_CHOICES * 1024];
+static float row_a[RDOQ_ROW], row_b[RDOQ_ROW];
+static uint32_t scan[LARGEST];
+static float source[LARGEST], inv_qm[LARGEST];
+static int32_t levels[LARGEST];
+
+/* one strategy of each size, with its sides */
+static const struct { uint32_t cx, cy; uint8_t strategy; } sizes[] = {
+    {1, 1, 0}, {2, 1, 6}, {2, 2, 4}, {4, 2, 10}, {4, 4, 5}, {8, 4, 19}, {8, 8, 18}, {16, 8, 22}, {16, 16, 21}, {32, 16, 25}, {32, 32, 24},
+};
+
+static uint32_t codes[3][11];
+
+static void *call(void *argument) {
+    int search = *(int *)argument / 16, size = *(int *)argument % 16;
+    size_t n = 64u * sizes[size].cx * sizes[size].cy;
+    float cost;
+    uint32_t count;
+    codes[search][size] =
+        rdoq_block((uint32_t)search, 1, map, sizeof map, configs, sizeof configs, symbols, RDOQ_SYMBOLS, ready, RDOQ_READY,
+                   sizes[size].cx, sizes[size].cy, sizes[size].strategy, 1, false, 4, 1.0f, 0.1f, 1.0f, 1.0f, 0.9f,
+                   RDOQ_BIAS_NUMERATOR, 1.0f, scan, n, source, n, inv_qm, n, levels, n, choices, sizeof choices, row_a, RDOQ_ROW,
+                   row_b, RDOQ_ROW, &cost, &count);
+    return NULL;
+}
+
+static void *nothing(void *argument) { return argument; }
+
+/* Runs `work` on a stack of this size; how many bytes of it were touched. */
+static size_t run(void *(*work)(void *), int what, size_t bytes) {
+    unsigned char *stack = mmap(NULL, bytes, PROT_READ | PROT_WRITE, MAP_PRIVATE | MAP_ANONYMOUS, -1, 0);
+    if (stack == MAP_FAILED) exit(2);
+    memset(stack, PAINT, bytes);
+    for (int i = 0; i < LARGEST; i++) levels[i] = i % 7 - 3;
+    pthread_attr_t attributes;
+    pthread_t thread;
+    if (pthread_attr_init(&attributes) || pthread_attr_setstack(&attributes, stack, bytes) ||
+        pthread_create(&thread, &attributes, work, &what) || pthread_join(thread, NULL))
+        exit(2);
+    size_t clean = 0;
+    while (clean < bytes && stack[clean] == PAINT) clean++;
+    munmap(stack, bytes);
+    return bytes - clean;
+}
+
+int main(void) {
+    for (unsigned i = 0; i < RDOQ_SYMBOLS; i++) symbols[i] = 1.0f + 0.25f * (float)i;
+    if (rdoq_fill_ready(1, map, sizeof map, configs, sizeof configs, symbols, RDOQ_SYMBOLS, ready, RDOQ_READY)) return 2;
+    for (uint32_t i = 0; i < LARGEST; i++) {
+        scan[i] = i;
+        source[i] = (float)(i % 7) - 2.75f;
+        inv_qm[i] = 1.0f;
+    }
+    size_t empty = run(nothing, 0, WHOLE), most = 0;
+    for (int search = 0; search < 3; search++) {
+        for (int size = 0; size < 11; size++) {
+            size_t used = run(call, 16 * search + size, WHOLE) - empty;
+            if (codes[search][size]) return 2;
+            if (used > most) most = used;
+        }
+    }
+    printf("stack: %zu bytes at the most, %u are promised\n", most, (unsigned)RDOQ_STACK_BYTES);
+    if (most > RDOQ_STACK_BYTES) return 1;
+    /* a stack smaller than this faults */
+    for (int what = 0; what < 48; what++) {
+        if (what % 16 < 11) run(call, what, RDOQ_STACK_BYTES + MARGIN);
+    }
+    puts("stack: every call ran on a thread with as much");
+    return 0;
+}
