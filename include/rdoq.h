@@ -105,7 +105,7 @@ extern "C" {
 #define RDOQ_BIAS_NUMERATOR 0.145f
 #define RDOQ_STORE_RUNS 1024u     /* block numbers of a store */
 #define RDOQ_STORE_RECORD 3073u   /* numbers of its record */
-#define RDOQ_STACK_BYTES 16384u   /* no call takes more of its thread's stack */
+#define RDOQ_STACK_BYTES 20480u   /* no call takes more of its thread's stack */
 
 /*
  * A price book is lent in five parts that the caller keeps:
