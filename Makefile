@@ -35,6 +35,7 @@ export JIXEL_SRC
 test:
 	rt fmt --check
 	@diff docs/frequency-contexts.md <(tools/frequency_sheet.sh) || { echo 'docs/frequency-contexts.md is not what tools/frequency_sheet.sh prints' >&2; exit 1; }
+	@tools/ans_table.py --check
 	@rt ci | awk 'NR > 1 { print last; fflush() } { last = $$0 } END { print last > "target/verdict.txt" }'
 	@$(MAKE) bindings > target/bindings.log 2>&1 || { cat target/bindings.log; exit 1; }
 	@grep '^bindings:' target/bindings.log

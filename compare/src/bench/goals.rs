@@ -1,6 +1,7 @@
 //! The goals, and whether they are met.
 
 use crate::data::SEARCHES;
+use crate::inputs::CLUSTERS;
 use crate::measure::{BookCosts, Results, SearchCosts};
 use crate::show::{cells, table, Unit};
 use crate::store::CALLS;
@@ -31,6 +32,7 @@ pub fn all(results: &Results, unit: Unit) -> String {
     }
     rows.extend(results.books.iter().filter(|costs| costs.clusters == 64).map(|costs| checks(costs, unit)));
     if unit == Unit::Nanoseconds {
+        rows.extend(CLUSTERS.iter().zip(&results.ans).filter(|(&clusters, _)| clusters == 64).map(|(_, &cost)| ans(cost)));
         rows.extend(CALLS.iter().zip(&results.store).map(store));
         let checks = results.tally.checks;
         rows.push(vec![
@@ -71,6 +73,13 @@ fn checks(costs: &BookCosts, unit: Unit) -> Vec<String> {
         format!("{}; plain loop {}; {share:.3} of it", unit.checks(costs.checks), unit.checks(costs.plain)),
         met(within),
     ]
+}
+
+/// The builder from an ANS code; its goal is a time.
+fn ans(cost: f64) -> Vec<String> {
+    const MOST: f64 = 12_000.0;
+    let goal = format!("Symbol prices from an ANS code at 64 clusters: at most {:.0} µs", MOST / 1000.0);
+    vec![goal, format!("{:.2} µs", cost / 1000.0), met(cost <= MOST)]
 }
 
 /// A call on a store; its goal is a time.

@@ -16,6 +16,7 @@ extern "C" {
         choices: *mut u8, choices_len: usize, row_a: *mut f32, row_a_len: usize, row_b: *mut f32, row_b_len: usize, cost: *mut f32,
         count: *mut u32,
     ) -> u32;
+    fn rdoq_ans_symbol_bits(clusters: u32, freqs: *const u16, freqs_len: usize, symbols: *mut f32, symbols_len: usize) -> u32;
     fn rdoq_store_put(
         room: *mut u64, room_len: usize, record: *mut u64, record_len: usize, block: u32, tokens: *const u64, tokens_len: usize,
     ) -> u32;
@@ -72,6 +73,11 @@ pub fn call(search: Search, book: &Book, block: &Block, levels: &mut [i32], room
             a.as_mut_ptr(), a.len(), b.as_mut_ptr(), b.len(), &mut cost, &mut count,
         )
     }
+}
+
+/// The symbol prices of an ANS code.
+pub fn ans(clusters: u32, freqs: &[u16], symbols: &mut [f32]) -> u32 {
+    unsafe { rdoq_ans_symbol_bits(clusters, freqs.as_ptr(), freqs.len(), symbols.as_mut_ptr(), symbols.len()) }
 }
 
 /// Puts a run into a store.

@@ -77,6 +77,8 @@ pub struct Results {
     pub blocks: Vec<BlockCosts>,
     pub clearing: Vec<ClearCosts>,
     pub lent: Vec<LentCosts>,
+    /// Symbol prices of an ANS code, by the clusters of `inputs`.
+    pub ans: Vec<f64>,
     /// A call on a store, in the order of the list in `store`.
     pub store: Vec<f64>,
     pub tally: TallyCosts,
@@ -97,7 +99,7 @@ impl Meter {
     }
 
     pub fn all(&mut self) -> Results {
-        Results { searches: self.searches(), books: self.books(), blocks: self.blocks(), clearing: self.clearing(), lent: self.lent(), store: self.store(), tally: self.tally() }
+        Results { searches: self.searches(), books: self.books(), blocks: self.blocks(), clearing: self.clearing(), lent: self.lent(), ans: self.ans(), store: self.store(), tally: self.tally() }
     }
 
     fn searches(&mut self) -> Vec<SearchCosts> {
@@ -154,6 +156,11 @@ impl Meter {
             }
         }
         rows
+    }
+
+    fn ans(&mut self) -> Vec<f64> {
+        eprintln!("ANS prices");
+        CLUSTERS.iter().map(|&clusters| self.by_turns([Thing::Ans { clusters }])[0]).collect()
     }
 
     fn store(&mut self) -> Vec<f64> {

@@ -14,7 +14,7 @@ pub fn config(at: usize) -> String {
 /// `rooms` says which side clears.
 pub fn all(results: &Results, unit: Unit, rooms: &str) -> String {
     let searches: String = (0..DENSITIES.len()).map(|density| searches(results, unit, density, rooms)).collect();
-    searches + &books(results, unit) + &blocks(results, unit) + &clearing(results, unit) + &share(results, unit) + &store(results, unit) + &tally(results, unit)
+    searches + &books(results, unit) + &blocks(results, unit) + &clearing(results, unit) + &share(results, unit) + &ans(results, unit) + &store(results, unit) + &tally(results, unit)
 }
 
 fn searches(results: &Results, unit: Unit, density: usize, rooms: &str) -> String {
@@ -124,6 +124,12 @@ fn share(results: &Results, unit: Unit) -> String {
     let rows: Vec<_> = results.searches.iter().filter(|costs| costs.c == 1).map(row).collect();
     let head = cells(&["Levels", "Search", "Checks 7 to 14", "Clearing", "Rust's search", "Share"]);
     table("The block's checks and clearing at c = 1, beside the Rust's search", "", &head, &rows)
+}
+
+fn ans(results: &Results, unit: Unit) -> String {
+    let text = "Symbol prices of an ANS code: 128 frequencies a cluster, each looked at for 19 and looked up. The table is laid down once a call.";
+    let rows: Vec<_> = CLUSTERS.iter().zip(&results.ans).map(|(clusters, &cost)| vec![clusters.to_string(), unit.checks(cost)]).collect();
+    table("Symbol prices from an ANS code", unit.told(text), &cells(&["Clusters", "Cost"]), &rows)
 }
 
 fn store(results: &Results, unit: Unit) -> String {

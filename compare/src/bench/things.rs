@@ -25,6 +25,8 @@ pub enum Thing {
     Refused { c: usize, density: usize },
     /// A call on a settled block of c = 1, with a room of so many choice bytes and floats in a row. Its book has one cluster.
     Settled { search: Search, choices: usize, row: usize },
+    /// Symbol prices of an ANS code.
+    Ans { clusters: usize },
     /// A call on a full store, by its place in the list of `store`.
     Store { call: usize },
     /// A stream of so many tokens added to a tally, by the Rust or by the port.
@@ -43,6 +45,7 @@ impl Thing {
             Thing::Settled { search, choices, row } => [5, search as usize, choices, row],
             Thing::Store { call } => [6, call, 0, 0],
             Thing::Tally { tokens, rust } => [7, tokens, usize::from(rust), 0],
+            Thing::Ans { clusters } => [8, clusters, 0, 0],
         }
     }
 
@@ -55,6 +58,7 @@ impl Thing {
             [4, c, density, ..] => Thing::Refused { c, density },
             [6, call, ..] => Thing::Store { call },
             [7, tokens, rust, ..] => Thing::Tally { tokens, rust: rust != 0 },
+            [8, clusters, ..] => Thing::Ans { clusters },
             [_, search, choices, row] => Thing::Settled { search: SEARCHES[search], choices, row },
         }
     }
@@ -73,6 +77,7 @@ enum Task {
     PlainLoop(Book),
     Store(Store),
     Tally(Tally),
+    Ans { freqs: Vec<u16>, symbols: Vec<f32> },
 }
 
 /// A thing made ready to be run in rounds.
@@ -115,6 +120,11 @@ impl Work {
             }
             Thing::Store { call } => once(Task::Store(Store::of(call))),
             Thing::Tally { tokens, rust } => once(Task::Tally(Tally::of(tokens, rust))),
+            Thing::Ans { clusters } => {
+                let freqs: Vec<u16> = (0..128 * clusters).map(|at| (at * 2657 % 4097) as u16).collect();
+                let symbols = vec![0.0; freqs.len()];
+                Work { task: Task::Ans { freqs, symbols }, repeat: 512 / clusters }
+            }
         }
     }
 
@@ -125,6 +135,7 @@ impl Work {
             Task::Checks(_) | Task::PlainLoop(_) => self.repeat,
             Task::Store(store) => store.calls(),
             Task::Tally(_) => self.repeat,
+            Task::Ans { .. } => self.repeat,
         }
     }
 
@@ -136,7 +147,7 @@ impl Work {
                     levels.copy_from_slice(&block.levels);
                 }
             }
-            Task::Checks(_) | Task::PlainLoop(_) => {}
+            Task::Checks(_) | Task::PlainLoop(_) | Task::Ans { .. } => {}
             Task::Store(store) => store.reset(),
             Task::Tally(tally) => tally.reset(),
         }
@@ -163,6 +174,7 @@ impl Work {
                 Task::PlainLoop(book) => reply = plain_loop(black_box(book)),
                 Task::Store(store) => reply = black_box(store).round(),
                 Task::Tally(tally) => reply = black_box(tally).round(),
+                Task::Ans { freqs, symbols } => reply = library::ans((freqs.len() / 128) as u32, black_box(freqs), symbols),
             }
         }
         reply
@@ -172,7 +184,7 @@ impl Work {
     pub fn levels(&self) -> Vec<&[i32]> {
         match &self.task {
             Task::Port { lent, .. } | Task::Rust { lent, .. } => lent.iter().map(|lent| &lent.levels[..]).collect(),
-            Task::Checks(_) | Task::PlainLoop(_) | Task::Store(_) | Task::Tally(_) => Vec::new(),
+            Task::Checks(_) | Task::PlainLoop(_) | Task::Store(_) | Task::Tally(_) | Task::Ans { .. } => Vec::new(),
         }
     }
 
@@ -181,7 +193,7 @@ impl Work {
         match &self.task {
             Task::Port { room, .. } => room.is_clear(),
             Task::Rust { scratch, .. } => scratch.is_clear(),
-            Task::Checks(_) | Task::PlainLoop(_) | Task::Store(_) | Task::Tally(_) => false,
+            Task::Checks(_) | Task::PlainLoop(_) | Task::Store(_) | Task::Tally(_) | Task::Ans { .. } => false,
         }
     }
 }
