@@ -1,4 +1,5 @@
 # make test       the whole gate: layout, proofs, must-fail edits, programs; then the bindings and a short comparison, where their tools are at hand
+# make quick      for the desk, not the verdict: what changed and what stands above it is proved, and the programs run; no edits
 # make run        the main program on a sample
 # make library    the static library for C and Rust, target/staticlib/librdoq_c.a
 # make bindings   the static library, the C example and the tests of the Rust crate
@@ -29,18 +30,25 @@ PASSES ?= 31
 JIXEL_SRC ?= $(abspath ../shared/docs/src)
 export JIXEL_SRC
 
-.PHONY: test run library bindings fuzz compare bench
+.PHONY: test quick run library bindings fuzz compare bench
 
 # rt's closing line, 'N passed, 0 failed', is kept back and printed last.
 test:
 	rt fmt --check
 	@diff docs/frequency-contexts.md <(tools/frequency_sheet.sh) || { echo 'docs/frequency-contexts.md is not what tools/frequency_sheet.sh prints' >&2; exit 1; }
-	@rt ci | awk 'NR > 1 { print last; fflush() } { last = $$0 } END { print last > "target/verdict.txt" }'
+	@tools/ans_table.py --check
+	@log=$$(mktemp); rt ci | tee "$$log" | awk 'NR > 1 { print last; fflush() } { last = $$0 } END { print last > "target/verdict.txt" }'; mv "$$log" target/ci.log
+	@tools/gate_times.sh target/ci.log > target/gate-times.txt || true; tail -n 1 target/gate-times.txt
+	@tools/edit_logs.sh
 	@$(MAKE) bindings > target/bindings.log 2>&1 || { cat target/bindings.log; exit 1; }
 	@grep '^bindings:' target/bindings.log
 	@if command -v cargo > /dev/null && [ -f "$(JIXEL_SRC)/src/group/trellis.rs" ]; then $(MAKE) compare N=100; \
 	else echo 'compare: no cargo, or not the Rust in JIXEL_SRC: left out'; fi
 	@cat target/verdict.txt
+
+quick:
+	rt fmt --check
+	@rt check
 
 SAMPLE := examples/blocks.bin
 

@@ -20,13 +20,14 @@
  * caller: wrong lengths and wrong contents are refused by number.
  *
  * Refusals. The first check that fails is answered. A search makes its checks in this order: `search` names one (17), 1 to 9, 18,
- * 10 to 14; then the trellis may find 15, the beam 16. The builder of a prefix code makes 1 and 2, rdoq_fill_ready 1 to 5. The
- * leaf and price calls make 17 alone. A tally's calls make 1 to 4, 17, then 27 or 28. The calls on a store make 37, 33, then 34 (put)
- * or 35 (drop, read), then 36 (read).
+ * 10 to 14; then the trellis may find 15, the beam 16. The builder of a prefix code makes 1 and 2, that of an ANS code 1, 2 and 19,
+ * rdoq_fill_ready 1 to 5. The leaf and price calls make 17 alone. A tally's calls make 1 to 4, 17, then 27 or 28. The calls on a store
+ * make 37, 33, then 34 (put) or 35 (drop, read), then 36 (read).
  *
  *    1  the map is not 14,850 bytes, or the clusters are not 1 to 256
  *         Lend a byte for each context; name 1 to 256 clusters.
- *    2  configs are not 3 bytes a cluster, symbols not 128 floats, ready not 256; of a prefix code: depths not 128 bytes, singles not 1
+ *    2  configs are not 3 bytes a cluster, symbols not 128 floats, ready not 256; of a prefix code: depths not 128 bytes, singles not 1;
+ *       of an ANS code: frequencies not 128
  *         Lend the exact lengths; surplus is refused too.
  *    3  an entry of the map is not below the number of clusters
  *         Mend the map, or name more clusters.
@@ -62,6 +63,8 @@
  *   18  the product of the sides is not what ISO/IEC 18181-1 gives for the strategy (codes 0-3, 12-17: 1; 6, 7: 2; 4, 8, 9: 4;
  *       10, 11: 8; 5: 16; 19, 20: 32; 18: 64; 22, 23: 128; 21: 256; 25, 26: 512; 24: 1,024)
  *         Pass the strategy and the sides of one block. Which side is the longer does not matter.
+ *   19  a frequency of an ANS code is above 4,096
+ *         Scale the frequencies so that 4,096 is the whole.
  *   27  a count of a tally would pass 2^32 - 1, or its total of extra bits 2^64 - 1
  *         Begin a new tally.
  *   28  a count of a tally, or its total, would fall below 0
@@ -102,7 +105,7 @@ extern "C" {
 #define RDOQ_BIAS_NUMERATOR 0.145f
 #define RDOQ_STORE_RUNS 1024u     /* block numbers of a store */
 #define RDOQ_STORE_RECORD 3073u   /* numbers of its record */
-#define RDOQ_STACK_BYTES 16384u   /* no call takes more of its thread's stack */
+#define RDOQ_STACK_BYTES 20480u   /* no call takes more of its thread's stack */
 
 /*
  * A price book is lent in five parts that the caller keeps:
@@ -129,6 +132,12 @@ uint32_t rdoq_fill_ready(uint32_t clusters, const uint8_t *map, size_t map_len, 
  */
 uint32_t rdoq_prefix_symbol_bits(uint32_t clusters, const uint8_t *depths, size_t depths_len, const uint8_t *singles,
                                  size_t singles_len, bool strict, float *symbols, size_t symbols_len);
+
+/*
+ * Writes every symbol price of an ANS code. freqs has 128 frequencies a cluster, each at most 4,096, the whole being 4,096.
+ * Frequency 0 costs 15.0, any other 12 - log2. They need not add up to 4,096. Returns 0, or 1, 2 or 19 and writes nothing.
+ */
+uint32_t rdoq_ans_symbol_bits(uint32_t clusters, const uint16_t *freqs, size_t freqs_len, float *symbols, size_t symbols_len);
 
 /*
  * Writes the price of a value of at most 131,071 in a context below 14,850: the price of its symbol plus its extra bits. A cluster has

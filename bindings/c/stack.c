@@ -1,5 +1,5 @@
 /*
- * How much stack a call takes. Each search runs on blocks of every size, on a thread whose stack was painted before; what is no longer paint was used.
+ * How much stack a call takes. The builder of an ANS code runs, and each search on blocks of every size, on a thread whose stack was painted before; what is no longer paint was used.
  * Then all of them run on a thread that has RDOQ_STACK_BYTES and the margin that the thread itself needs. The exit status is 1 where a call takes more
  * than RDOQ_STACK_BYTES.
  */
@@ -43,6 +43,15 @@ static void *call(void *argument) {
     return NULL;
 }
 
+/* the builder of an ANS code has the table of prices at hand */
+static void *ans(void *argument) {
+    static uint16_t freqs[RDOQ_SYMBOLS];
+    static float prices[RDOQ_SYMBOLS];
+    for (unsigned i = 0; i < RDOQ_SYMBOLS; i++) freqs[i] = (uint16_t)(32 * i);
+    if (rdoq_ans_symbol_bits(1, freqs, RDOQ_SYMBOLS, prices, RDOQ_SYMBOLS)) exit(2);
+    return argument;
+}
+
 static void *nothing(void *argument) { return argument; }
 
 /* Runs `work` on a stack of this size; how many bytes of it were touched. */
@@ -70,7 +79,7 @@ int main(void) {
         source[i] = (float)(i % 7) - 2.75f;
         inv_qm[i] = 1.0f;
     }
-    size_t empty = run(nothing, 0, WHOLE), most = 0;
+    size_t empty = run(nothing, 0, WHOLE), most = run(ans, 0, WHOLE) - empty;
     for (int search = 0; search < 3; search++) {
         for (int size = 0; size < 11; size++) {
             size_t used = run(call, 16 * search + size, WHOLE) - empty;
@@ -81,6 +90,7 @@ int main(void) {
     printf("stack: %zu bytes at the most, %u are promised\n", most, (unsigned)RDOQ_STACK_BYTES);
     if (most > RDOQ_STACK_BYTES) return 1;
     /* a stack smaller than this faults */
+    run(ans, 0, RDOQ_STACK_BYTES + MARGIN);
     for (int what = 0; what < 48; what++) {
         if (what % 16 < 11) run(call, what, RDOQ_STACK_BYTES + MARGIN);
     }

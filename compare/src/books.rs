@@ -1,4 +1,4 @@
-//! Price books by seed: from prefix codes, strict or not, and hand-made ones.
+//! Price books by seed: a third from ANS codes, others from prefix codes, strict or not, and hand-made ones.
 
 use crate::checks::{config_passes, has_all_words};
 use crate::data::Book;
@@ -22,9 +22,10 @@ pub fn random_book(random: &mut Random) -> Book {
     for _ in 0..clusters {
         book.configs.extend(config(random, any));
     }
-    match random.below(10) {
+    match random.below(15) {
         0..=2 => prefix_book(random, &mut book, false),
         3 => prefix_book(random, &mut book, true),
+        10.. => price_ans(&mut book, &ans_code(random, clusters)),
         kind => {
             let infinite = random.pick(&[0, 0, 0, 0, 300, 60, 12, 2]);
             for _ in 0..128 * clusters {
@@ -112,18 +113,8 @@ fn prefix_book(random: &mut Random, book: &mut Book, strict: bool) {
 }
 
 /// Prices that the Rust makes from prefix codes. Strict: a symbol without a word costs +infinity, where its cluster has a word.
-/// Under 6,m,6-m the Rust would index past 127 for the ready prices: it makes the symbol prices alone.
 pub fn price_prefix(book: &mut Book, codes: &[PrefixCode], strict: bool) {
-    let past = book.configs.chunks(3).any(|c| c[1] + c[2] == 6);
-    let configs = book.configs.clone();
-    if past {
-        book.configs = [4, 2, 0].repeat(codes.len());
-    }
-    crate::entropy::entropy_code::door::from_prefix(book, codes.to_vec());
-    book.configs = configs;
-    if past {
-        fill_ready(book);
-    }
+    by_the_rust(book, |book| crate::entropy::entropy_code::door::from_prefix(book, codes.to_vec()));
     if strict {
         for (row, code) in book.symbols.chunks_mut(128).zip(codes) {
             if code.depths == [0; 128] {
@@ -137,6 +128,41 @@ pub fn price_prefix(book: &mut Book, codes: &[PrefixCode], strict: bool) {
         }
         fill_ready(book);
     }
+}
+
+/// Prices that the Rust makes from ANS frequencies.
+pub fn price_ans(book: &mut Book, freqs: &[u16]) {
+    by_the_rust(book, |book| crate::entropy::entropy_code::door::from_ans(book, freqs));
+}
+
+/// Under 6,m,6-m the Rust would index past 127 for the ready prices: it makes the symbol prices alone.
+fn by_the_rust(book: &mut Book, make: impl FnOnce(&mut Book)) {
+    let past = book.configs.chunks(3).any(|c| c[1] + c[2] == 6);
+    let configs = book.configs.clone();
+    if past {
+        book.configs = [4, 2, 0].repeat(configs.len() / 3);
+    }
+    make(book);
+    book.configs = configs;
+    if past {
+        fill_ready(book);
+    }
+}
+
+/// Frequencies of an ANS code, 128 a cluster: each cluster's add up to 4,096, or nearly so, in one symbol or in many; some clusters have none.
+pub fn ans_code(random: &mut Random, clusters: usize) -> Vec<u16> {
+    let mut freqs = vec![0u16; 128 * clusters];
+    for row in freqs.chunks_mut(128) {
+        let used = random.pick(&[0, 1, 1, 2, 8, 40, 128, 128]);
+        let mut left = 4096;
+        for at in 0..used {
+            let share = if at + 1 == used { left } else { random.below(1 + 2 * left / (used - at)).min(left) };
+            let any = random.below(128);
+            row[random.pick(&[at, at, at, any])] = share as u16;
+            left -= share;
+        }
+    }
+    freqs
 }
 
 /// Depths of a code that exists: each is the logarithm of total over frequency, rounded up. Some have no word at all.

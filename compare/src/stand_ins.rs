@@ -76,7 +76,7 @@ pub(crate) mod entropy {
         }
     }
 
-    /// The ANS branch stays outside (document 01, module 4). No book here takes it.
+    /// What the ANS branch of the price book reads (ticket 2 of document 02).
     pub(crate) mod ans {
         pub(crate) const ANS_LOG_TAB_SIZE: usize = 12;
 
@@ -90,10 +90,17 @@ pub(crate) mod entropy {
     }
 }
 
-/// For the ANS branch alone, which no book here takes.
 pub(crate) mod adaptive_quant {
-    pub(crate) fn dirty_log2f(x: f32) -> f32 {
-        x.log2()
+    /// Ticket 2 of document 02: a logarithm from the float's bits, with additions that wrap, and no fused step. The original's own series is not in the
+    /// text; the constants are the f32 nearest 2 / (k ln 2), k = 7, 5, 3, 1.
+    pub(crate) fn dirty_log2f(d: f32) -> f32 {
+        let i = d.to_bits().wrapping_add(0x3f80_0000 - 0x3f35_04f3);
+        let n = (i >> 23) as i32 - 127;
+        let a = f32::from_bits((i & 0x7f_ffff).wrapping_add(0x3f35_04f3));
+        let x = (a - 1.0) / (a + 1.0);
+        let y = x * x;
+        let series = (f32::from_bits(0x3ed3_0bb1) * y + f32::from_bits(0x3f13_bb63)) * y + f32::from_bits(0x3f76_384f);
+        (y * x) * series + (x * f32::from_bits(0x4038_aa3b) + n as f32)
     }
 }
 

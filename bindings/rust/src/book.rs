@@ -195,6 +195,20 @@ pub enum Pricing {
 /// assert_eq!(book.token_bits(0, 3)?, f32::INFINITY);
 /// # Ok::<(), rdoq::Refusal>(())
 /// ```
+///
+/// From an ANS code:
+///
+/// ```
+/// use rdoq::{BookBuilder, CONTEXTS, SYMBOLS};
+///
+/// let mut freqs = vec![0; SYMBOLS];
+/// freqs[0] = 2048;
+/// freqs[1] = 1024;
+/// freqs[2] = 1024;
+/// let book = BookBuilder::new(vec![0; CONTEXTS], &[[4, 2, 0]]).ans_code(&freqs)?.fill()?;
+/// assert_eq!([book.token_bits(0, 0)?, book.token_bits(0, 2)?, book.token_bits(0, 3)?], [1.0, 2.0, 15.0]);
+/// # Ok::<(), rdoq::Refusal>(())
+/// ```
 #[derive(Clone)]
 pub struct BookBuilder {
     clusters: u32,
@@ -237,6 +251,23 @@ impl BookBuilder {
                 symbols.as_mut_ptr(),
                 symbols.len(),
             )
+        })?;
+        self.symbols = symbols;
+        Ok(self)
+    }
+
+    /// Prices the symbols by an ANS code: 128 frequencies for each cluster, 4,096 being the whole. Frequency 0 costs 15 bits, any other 12 less its logarithm,
+    /// by the original's routine on a float's bits. They need not add up to 4,096.
+    ///
+    /// # Errors
+    ///
+    /// [`MapLength`](Refusal::MapLength) where the clusters are not 1 to 256, then [`BookLength`](Refusal::BookLength) where
+    /// the frequencies are not 128 for each of them, then [`Frequency`](Refusal::Frequency) where one is above 4,096.
+    pub fn ans_code(mut self, freqs: &[u16]) -> Result<BookBuilder, Refusal> {
+        let mut symbols = vec![0.0; SYMBOLS * self.configs.len() / 3];
+        // SAFETY: each pointer comes with the length of its slice; only `symbols` is written.
+        answered(unsafe {
+            ffi::rdoq_ans_symbol_bits(self.clusters, freqs.as_ptr(), freqs.len(), symbols.as_mut_ptr(), symbols.len())
         })?;
         self.symbols = symbols;
         Ok(self)

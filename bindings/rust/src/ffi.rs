@@ -14,6 +14,9 @@ extern "C" {
         clusters: u32, depths: *const u8, depths_len: usize, singles: *const u8, singles_len: usize, strict: bool,
         symbols: *mut c_float, symbols_len: usize,
     ) -> u32;
+    pub fn rdoq_ans_symbol_bits(
+        clusters: u32, freqs: *const u16, freqs_len: usize, symbols: *mut c_float, symbols_len: usize,
+    ) -> u32;
     pub fn rdoq_token_bits(
         clusters: u32, map: *const u8, map_len: usize, configs: *const u8, configs_len: usize, symbols: *const c_float,
         symbols_len: usize, ready: *const c_float, ready_len: usize, context: u32, value: u32, bits: *mut c_float,

@@ -62,7 +62,7 @@
 //! | jixel | Here |
 //! |---|---|
 //! | `channel_weight` | [`Settings::channel_weight`] |
-//! | `prices: &FrozenTokenPrices` | `&`[`Book`]; of a prefix code from [`BookBuilder::prefix_code`] |
+//! | `prices: &FrozenTokenPrices` | `&`[`Book`]; from [`BookBuilder::prefix_code`] or [`BookBuilder::ans_code`] |
 //! | `scan` | [`Block::scan`]: 64 indices for each covered block, each index once |
 //! | `source` | [`Block::source`] |
 //! | `inv_qm` | [`Block::inv_qm`] |

@@ -50,6 +50,8 @@ pub enum Refusal {
     Domain = 17,
     /// The product of the block's sides is not the strategy's.
     Sides = 18,
+    /// A frequency of an ANS code is above 4,096.
+    Frequency = 19,
     /// A count of a tally, or its total of extra bits, would pass its type.
     TallyFull = 27,
     /// A count of a tally, or its total of extra bits, would fall below 0.
@@ -88,6 +90,7 @@ const ALL: &[Refusal] = &[
     Refusal::PathsInfinite,
     Refusal::Domain,
     Refusal::Sides,
+    Refusal::Frequency,
     Refusal::TallyFull,
     Refusal::TallyEmpty,
     Refusal::BlockNumber,
@@ -111,7 +114,7 @@ impl Refusal {
     fn remedy(self) -> &'static str {
         match self {
             Refusal::MapLength => "the context map is not 14,850 bytes, or the clusters are not 1 to 256: lend a byte for each context and 1 to 256 clusters",
-            Refusal::BookLength => "a part of the book has a wrong length: lend 3 bytes of configuration, 128 symbol prices and 256 ready prices for each cluster (of a prefix code: 128 depths and 1 flag), no more and no less",
+            Refusal::BookLength => "a part of the book has a wrong length: lend 3 bytes of configuration, 128 symbol prices and 256 ready prices for each cluster (of a prefix code: 128 depths and 1 flag; of an ANS code: 128 frequencies), no more and no less",
             Refusal::MapEntry => "an entry of the context map is not below the number of clusters: mend the map, or add clusters",
             Refusal::Configuration => "a configuration (s, m, l) has s > 6 or m + l > s: use a smaller one, such as 4,2,0 or 5,2,2",
             Refusal::SymbolPrice => "a symbol price is NaN, below 0, or finite and above 1,024: use +infinity for a symbol that can't be written",
@@ -128,6 +131,7 @@ impl Refusal {
             Refusal::PathsInfinite => "every path that the beam kept ended at an infinite cost: give finite prices to the symbols that the block needs",
             Refusal::Domain => "an argument lies outside the call's domain: the call's documentation gives it",
             Refusal::Sides => "the product of the sides is not what the strategy covers (a 16x16 transform covers 2 by 2 units of 8 samples): pass the strategy and the sides of one block",
+            Refusal::Frequency => "a frequency of an ANS code is above 4,096: scale the frequencies so that 4,096 is the whole",
             Refusal::TallyFull => "a count would pass 2^32 - 1, or the total of extra bits 2^64 - 1: begin a new tally",
             Refusal::TallyEmpty => "a count or the total of extra bits would fall below 0: take out only tokens that were added, under the same map and configurations",
             Refusal::BlockNumber => "the block number is not below 1,024: number the blocks of a store from 0",

@@ -19,7 +19,7 @@ fn config(split_exponent: u32, msb_in_token: u32, lsb_in_token: u32) -> Config {
 #[test]
 fn refusals_have_their_numbers() {
     let mut texts = HashSet::new();
-    for number in (1..=18).chain(27..=28).chain(33..=37) {
+    for number in (1..=19).chain(27..=28).chain(33..=37) {
         let refusal = Refusal::from_number(number).unwrap();
         assert_eq!(refusal.number(), number);
         let text = refusal.to_string();
@@ -67,6 +67,26 @@ fn a_price_is_that_of_the_contexts_cluster() {
     let book = BookBuilder::new(map, &[[4, 2, 0], [4, 2, 1]]).symbol_prices(prices).fill().unwrap();
     assert_eq!(book.token_bits_pair(6, 3), Ok((1.0, 2.0)));
     assert_eq!(book.token_bits_pair(7, 3), Ok((2.0, 1.0)));
+}
+
+#[test]
+fn a_book_from_an_ans_code() {
+    let mut freqs = vec![0; 2 * SYMBOLS];
+    freqs[..4].copy_from_slice(&[2_048, 1_024, 3, 4_096]);
+    freqs[SYMBOLS] = 39;
+    let two = BookBuilder::new(vec![0; CONTEXTS], &[[4, 2, 0], [4, 2, 0]]);
+    let book = two.clone().ans_code(&freqs).unwrap().fill().unwrap();
+    assert_eq!(book.check(), Ok(()));
+    // powers of two are exact; 3 and 39 by their bits
+    assert_eq!(book.symbols()[..2], [1.0, 2.0]);
+    assert_eq!(book.symbols()[2].to_bits(), 0x4126_a3fe);
+    assert_eq!(book.symbols()[3..5], [0.0, 15.0]);
+    assert!((f64::from(book.symbols()[SYMBOLS]) - (12.0 - 39f64.log2())).abs() < 1e-6);
+    freqs[2 * SYMBOLS - 1] = 4_097;
+    assert_eq!(two.clone().ans_code(&freqs).err(), Some(Refusal::Frequency));
+    freqs.pop();
+    assert_eq!(two.ans_code(&freqs).err(), Some(Refusal::BookLength));
+    assert_eq!(BookBuilder::new(vec![0; CONTEXTS], &[]).ans_code(&[]).err(), Some(Refusal::MapLength));
 }
 
 #[test]

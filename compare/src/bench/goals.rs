@@ -1,9 +1,11 @@
 //! The goals, and whether they are met.
 
 use crate::data::SEARCHES;
+use crate::inputs::CLUSTERS;
 use crate::measure::{BookCosts, Results, SearchCosts};
 use crate::show::{cells, table, Unit};
 use crate::store::CALLS;
+use crate::tally;
 use crate::tables::{config, share_of};
 
 /// The search part over the Rust's search.
@@ -30,8 +32,17 @@ pub fn all(results: &Results, unit: Unit) -> String {
     }
     rows.extend(results.books.iter().filter(|costs| costs.clusters == 64).map(|costs| checks(costs, unit)));
     if unit == Unit::Nanoseconds {
+        rows.extend(CLUSTERS.iter().zip(&results.ans).filter(|(&clusters, _)| clusters == 64).map(|(_, &cost)| ans(cost)));
         rows.extend(CALLS.iter().zip(&results.store).map(store));
+        let checks = results.tally.checks;
+        rows.push(vec![
+            format!("A tally: checks 1 to 4 at 64 clusters, at most {:.0} ns", tally::CHECKS_GOAL),
+            format!("{checks:.0} ns"),
+            met(checks <= tally::CHECKS_GOAL),
+        ]);
     }
+    let ratio = results.tally.token / results.tally.rust;
+    rows.push(row(&format!("A tally: a token at most {} of the Rust's", tally::TOKEN_GOAL), &[ratio], tally::TOKEN_GOAL));
     table("Goals", "", &cells(&["Goal", "Measured", "Met"]), &rows)
 }
 
@@ -62,6 +73,13 @@ fn checks(costs: &BookCosts, unit: Unit) -> Vec<String> {
         format!("{}; plain loop {}; {share:.3} of it", unit.checks(costs.checks), unit.checks(costs.plain)),
         met(within),
     ]
+}
+
+/// The builder from an ANS code; its goal is a time.
+fn ans(cost: f64) -> Vec<String> {
+    const MOST: f64 = 12_000.0;
+    let goal = format!("Symbol prices from an ANS code at 64 clusters: at most {:.0} µs", MOST / 1000.0);
+    vec![goal, format!("{:.2} µs", cost / 1000.0), met(cost <= MOST)]
 }
 
 /// A call on a store; its goal is a time.

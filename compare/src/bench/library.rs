@@ -16,6 +16,7 @@ extern "C" {
         choices: *mut u8, choices_len: usize, row_a: *mut f32, row_a_len: usize, row_b: *mut f32, row_b_len: usize, cost: *mut f32,
         count: *mut u32,
     ) -> u32;
+    fn rdoq_ans_symbol_bits(clusters: u32, freqs: *const u16, freqs_len: usize, symbols: *mut f32, symbols_len: usize) -> u32;
     fn rdoq_store_put(
         room: *mut u64, room_len: usize, record: *mut u64, record_len: usize, block: u32, tokens: *const u64, tokens_len: usize,
     ) -> u32;
@@ -23,6 +24,10 @@ extern "C" {
     fn rdoq_store_read(
         room: *const u64, room_len: usize, record: *const u64, record_len: usize, block: u32, tokens: *mut u64, tokens_len: usize,
         length: *mut usize,
+    ) -> u32;
+    fn rdoq_tally_add(
+        clusters: u32, map: *const u8, map_len: usize, configs: *const u8, configs_len: usize, contexts: *const u32, contexts_len: usize,
+        values: *const u32, values_len: usize, counts: *mut u32, counts_len: usize, extra: *mut u64,
     ) -> u32;
 }
 
@@ -70,6 +75,11 @@ pub fn call(search: Search, book: &Book, block: &Block, levels: &mut [i32], room
     }
 }
 
+/// The symbol prices of an ANS code.
+pub fn ans(clusters: u32, freqs: &[u16], symbols: &mut [f32]) -> u32 {
+    unsafe { rdoq_ans_symbol_bits(clusters, freqs.as_ptr(), freqs.len(), symbols.as_mut_ptr(), symbols.len()) }
+}
+
 /// Puts a run into a store.
 pub fn put(room: &mut [u64], record: &mut [u64], block: u32, tokens: &[u64]) -> u32 {
     unsafe {
@@ -90,6 +100,16 @@ pub fn read(room: &[u64], record: &[u64], block: u32, tokens: &mut [u64]) -> u32
     unsafe {
         rdoq_store_read(
             room.as_ptr(), room.len(), record.as_ptr(), record.len(), block, tokens.as_mut_ptr(), tokens.len(), &mut length,
+        )
+    }
+}
+
+/// Adds tokens to a tally.
+pub fn tally_add(book: &Book, contexts: &[u32], values: &[u32], counts: &mut [u32], extra: &mut u64) -> u32 {
+    unsafe {
+        rdoq_tally_add(
+            book.clusters, book.map.as_ptr(), book.map.len(), book.configs.as_ptr(), book.configs.len(), contexts.as_ptr(), contexts.len(),
+            values.as_ptr(), values.len(), counts.as_mut_ptr(), counts.len(), extra,
         )
     }
 }

@@ -15,6 +15,7 @@ mod measure;
 mod page;
 mod show;
 mod store;
+mod tally;
 mod tables;
 mod things;
 

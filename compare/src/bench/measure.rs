@@ -4,6 +4,7 @@ use crate::count::Counter;
 use crate::data::{Search, SEARCHES};
 use crate::inputs::{needed, CLUSTERS, CONFIGS, DENSITIES, SEARCHED, SIZES};
 use crate::store;
+use crate::tally::TOKENS;
 use crate::things::{Thing, Work};
 use std::time::{Duration, Instant};
 
@@ -63,14 +64,24 @@ pub struct LentCosts {
     pub rows: f64,
 }
 
+/// A stream added to a tally, at 64 clusters: none (checks 1 to 4 and 17), then each token by the port and by the Rust.
+pub struct TallyCosts {
+    pub checks: f64,
+    pub token: f64,
+    pub rust: f64,
+}
+
 pub struct Results {
     pub searches: Vec<SearchCosts>,
     pub books: Vec<BookCosts>,
     pub blocks: Vec<BlockCosts>,
     pub clearing: Vec<ClearCosts>,
     pub lent: Vec<LentCosts>,
+    /// Symbol prices of an ANS code, by the clusters of `inputs`.
+    pub ans: Vec<f64>,
     /// A call on a store, in the order of the list in `store`.
     pub store: Vec<f64>,
+    pub tally: TallyCosts,
 }
 
 pub enum Meter {
@@ -88,7 +99,7 @@ impl Meter {
     }
 
     pub fn all(&mut self) -> Results {
-        Results { searches: self.searches(), books: self.books(), blocks: self.blocks(), clearing: self.clearing(), lent: self.lent(), store: self.store() }
+        Results { searches: self.searches(), books: self.books(), blocks: self.blocks(), clearing: self.clearing(), lent: self.lent(), ans: self.ans(), store: self.store(), tally: self.tally() }
     }
 
     fn searches(&mut self) -> Vec<SearchCosts> {
@@ -147,9 +158,21 @@ impl Meter {
         rows
     }
 
+    fn ans(&mut self) -> Vec<f64> {
+        eprintln!("ANS prices");
+        CLUSTERS.iter().map(|&clusters| self.by_turns([Thing::Ans { clusters }])[0]).collect()
+    }
+
     fn store(&mut self) -> Vec<f64> {
         eprintln!("store");
         (0..store::CALLS.len()).map(|call| self.by_turns([Thing::Store { call }])[0]).collect()
+    }
+
+    fn tally(&mut self) -> TallyCosts {
+        eprintln!("tally");
+        let of = |tokens, rust| Thing::Tally { tokens, rust };
+        let [checks, port, rust] = self.by_turns([of(0, false), of(TOKENS, false), of(TOKENS, true)]);
+        TallyCosts { checks, token: (port - checks) / TOKENS as f64, rust: rust / TOKENS as f64 }
     }
 
     fn lent(&mut self) -> Vec<LentCosts> {

@@ -14,7 +14,7 @@ pub fn config(at: usize) -> String {
 /// `rooms` says which side clears.
 pub fn all(results: &Results, unit: Unit, rooms: &str) -> String {
     let searches: String = (0..DENSITIES.len()).map(|density| searches(results, unit, density, rooms)).collect();
-    searches + &books(results, unit) + &blocks(results, unit) + &clearing(results, unit) + &share(results, unit) + &store(results, unit)
+    searches + &books(results, unit) + &blocks(results, unit) + &clearing(results, unit) + &share(results, unit) + &ans(results, unit) + &store(results, unit) + &tally(results, unit)
 }
 
 fn searches(results: &Results, unit: Unit, density: usize, rooms: &str) -> String {
@@ -126,8 +126,21 @@ fn share(results: &Results, unit: Unit) -> String {
     table("The block's checks and clearing at c = 1, beside the Rust's search", "", &head, &rows)
 }
 
+fn ans(results: &Results, unit: Unit) -> String {
+    let text = "Symbol prices of an ANS code: 128 frequencies a cluster, each looked at for 19 and looked up. The table is laid down once a call.";
+    let rows: Vec<_> = CLUSTERS.iter().zip(&results.ans).map(|(clusters, &cost)| vec![clusters.to_string(), unit.checks(cost)]).collect();
+    table("Symbol prices from an ANS code", unit.told(text), &cells(&["Clusters", "Cost"]), &rows)
+}
+
 fn store(results: &Results, unit: Unit) -> String {
     let text = "1,024 runs of 30 tokens; each call checks the record (37). Where runs are moved, the room is just large enough for them.";
     let rows: Vec<_> = CALLS.iter().zip(&results.store).map(|((call, _), &cost)| vec![call.to_string(), unit.call(cost)]).collect();
     table("A store of token runs", unit.told(text), &cells(&["Call", "Cost"]), &rows)
+}
+
+fn tally(results: &Results, unit: Unit) -> String {
+    let costs = &results.tally;
+    let text = "4,096 tokens added at 64 clusters, a quarter of their values up to 2,000, the others below 12. The checks are those of a call without tokens.";
+    let row = vec![unit.call(costs.checks), format!("{:.2}", costs.token), format!("{:.2}", costs.rust), format!("{:.2}", costs.token / costs.rust)];
+    table("A tally", unit.told(text), &cells(&["Checks 1 to 4", "A token", "A token of the Rust's", "Ratio"]), &[row])
 }

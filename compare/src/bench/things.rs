@@ -7,6 +7,7 @@ use crate::group::trellis::door::{run, Scratch};
 use crate::inputs::{self, CONFIGS, SEARCHED};
 use crate::library::{self, Room};
 use crate::store::Store;
+use crate::tally::Tally;
 use std::hint::black_box;
 
 /// One thing that is measured. `density` and `config` are places in the lists of `inputs`.
@@ -24,8 +25,12 @@ pub enum Thing {
     Refused { c: usize, density: usize },
     /// A call on a settled block of c = 1, with a room of so many choice bytes and floats in a row. Its book has one cluster.
     Settled { search: Search, choices: usize, row: usize },
+    /// Symbol prices of an ANS code.
+    Ans { clusters: usize },
     /// A call on a full store, by its place in the list of `store`.
     Store { call: usize },
+    /// A stream of so many tokens added to a tally, by the Rust or by the port.
+    Tally { tokens: usize, rust: bool },
 }
 
 impl Thing {
@@ -39,6 +44,8 @@ impl Thing {
             Thing::Refused { c, density } => [4, c, density, 0],
             Thing::Settled { search, choices, row } => [5, search as usize, choices, row],
             Thing::Store { call } => [6, call, 0, 0],
+            Thing::Tally { tokens, rust } => [7, tokens, usize::from(rust), 0],
+            Thing::Ans { clusters } => [8, clusters, 0, 0],
         }
     }
 
@@ -50,6 +57,8 @@ impl Thing {
             [3, clusters, config, ..] => Thing::PlainLoop { clusters, config },
             [4, c, density, ..] => Thing::Refused { c, density },
             [6, call, ..] => Thing::Store { call },
+            [7, tokens, rust, ..] => Thing::Tally { tokens, rust: rust != 0 },
+            [8, clusters, ..] => Thing::Ans { clusters },
             [_, search, choices, row] => Thing::Settled { search: SEARCHES[search], choices, row },
         }
     }
@@ -67,6 +76,8 @@ enum Task {
     Checks(Book),
     PlainLoop(Book),
     Store(Store),
+    Tally(Tally),
+    Ans { freqs: Vec<u16>, symbols: Vec<f32> },
 }
 
 /// A thing made ready to be run in rounds.
@@ -108,6 +119,12 @@ impl Work {
                 Work { task: port(search, 1, vec![inputs::settled()], Room::of(choices, row)), repeat: 64 }
             }
             Thing::Store { call } => once(Task::Store(Store::of(call))),
+            Thing::Tally { tokens, rust } => once(Task::Tally(Tally::of(tokens, rust))),
+            Thing::Ans { clusters } => {
+                let freqs: Vec<u16> = (0..128 * clusters).map(|at| (at * 2657 % 4097) as u16).collect();
+                let symbols = vec![0.0; freqs.len()];
+                Work { task: Task::Ans { freqs, symbols }, repeat: 512 / clusters }
+            }
         }
     }
 
@@ -117,6 +134,8 @@ impl Work {
             Task::Port { lent, .. } | Task::Rust { lent, .. } => self.repeat * lent.len(),
             Task::Checks(_) | Task::PlainLoop(_) => self.repeat,
             Task::Store(store) => store.calls(),
+            Task::Tally(_) => self.repeat,
+            Task::Ans { .. } => self.repeat,
         }
     }
 
@@ -128,8 +147,9 @@ impl Work {
                     levels.copy_from_slice(&block.levels);
                 }
             }
-            Task::Checks(_) | Task::PlainLoop(_) => {}
+            Task::Checks(_) | Task::PlainLoop(_) | Task::Ans { .. } => {}
             Task::Store(store) => store.reset(),
+            Task::Tally(tally) => tally.reset(),
         }
     }
 
@@ -153,6 +173,8 @@ impl Work {
                 Task::Checks(book) => reply = library::check(black_box(book)),
                 Task::PlainLoop(book) => reply = plain_loop(black_box(book)),
                 Task::Store(store) => reply = black_box(store).round(),
+                Task::Tally(tally) => reply = black_box(tally).round(),
+                Task::Ans { freqs, symbols } => reply = library::ans((freqs.len() / 128) as u32, black_box(freqs), symbols),
             }
         }
         reply
@@ -162,7 +184,7 @@ impl Work {
     pub fn levels(&self) -> Vec<&[i32]> {
         match &self.task {
             Task::Port { lent, .. } | Task::Rust { lent, .. } => lent.iter().map(|lent| &lent.levels[..]).collect(),
-            Task::Checks(_) | Task::PlainLoop(_) | Task::Store(_) => Vec::new(),
+            Task::Checks(_) | Task::PlainLoop(_) | Task::Store(_) | Task::Tally(_) | Task::Ans { .. } => Vec::new(),
         }
     }
 
@@ -171,7 +193,7 @@ impl Work {
         match &self.task {
             Task::Port { room, .. } => room.is_clear(),
             Task::Rust { scratch, .. } => scratch.is_clear(),
-            Task::Checks(_) | Task::PlainLoop(_) | Task::Store(_) => false,
+            Task::Checks(_) | Task::PlainLoop(_) | Task::Store(_) | Task::Tally(_) | Task::Ans { .. } => false,
         }
     }
 }

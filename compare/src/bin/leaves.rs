@@ -22,6 +22,7 @@ mod random;
 mod stand_ins;
 
 use crate::ac_context as contexts;
+use crate::data::Book;
 use crate::entropy::entropy_code::door as prices;
 use crate::group::door as bias;
 use crate::group::trellis::{chroma_rdoq_weight, door as trellis};
@@ -44,6 +45,7 @@ extern "C" {
     fn rdoq_distortion_weight(index: u32, length: u32, distance: f32, weight: *mut f32) -> u32;
     fn rdoq_candidates(ideal: f32, current: i32, restore: bool, levels: *mut i32, levels_len: usize, count: *mut u32) -> u32;
     fn rdoq_window_len(covered: u32, length: *mut usize, restoring: *mut usize) -> u32;
+    fn rdoq_ans_symbol_bits(clusters: u32, freqs: *const u16, freqs_len: usize, symbols: *mut f32, symbols_len: usize) -> u32;
     fn rdoq_check_book(
         clusters: u32, map: *const u8, map_len: usize, configs: *const u8, configs_len: usize, symbols: *const f32, symbols_len: usize,
         ready: *const f32, ready_len: usize,
@@ -276,6 +278,28 @@ fn prefix_prices() -> Tally {
     tally
 }
 
+/// Every frequency by itself, then drawn codes: the routine as the Rust's branch takes it.
+fn ans_prices() -> Tally {
+    let mut tally = Tally::new("ans_symbol_bits", "all 4,097 frequencies, and 2,000 drawn codes");
+    let mut random = Random::of(&[29]);
+    let mut at = |freqs: &[u16], which: usize| {
+        let clusters = freqs.len() / 128;
+        let mut book = data::Book { clusters: clusters as u32, map: vec![0; 14850], configs: [4, 2, 0].repeat(clusters), ..data::Book::default() };
+        books::price_ans(&mut book, freqs);
+        let mut ours = vec![f32::NAN; freqs.len()];
+        let code = unsafe { rdoq_ans_symbol_bits(book.clusters, freqs.as_ptr(), freqs.len(), ours.as_mut_ptr(), ours.len()) };
+        let bits = |prices: &[f32]| prices.iter().map(|price| price.to_bits()).collect::<Vec<_>>();
+        tally.hold((code, bits(&ours)), (0, bits(&book.symbols)), which);
+    };
+    let all: Vec<u16> = (0..33 * 128).map(|f| f.min(4096)).collect();
+    at(&all, 0);
+    for made in 1..=2000 {
+        let clusters = 1 + if random.once_in(20) { random.below(256) } else { random.below(8) };
+        at(&books::ans_code(&mut random, clusters), made);
+    }
+    tally
+}
+
 /// A book of these configurations by turns, its prices the Rust's from drawn prefix codes or drawn, some of them infinite.
 fn book_of(random: &mut Random, configs: &[[u8; 3]]) -> data::Book {
     let clusters = configs.len();
@@ -300,7 +324,7 @@ fn configurations() -> Vec<[u8; 3]> {
     all
 }
 
-fn check(book: &data::Book) -> u32 {
+fn check(book: &Book) -> u32 {
     unsafe {
         rdoq_check_book(
             book.clusters, book.map.as_ptr(), book.map.len(), book.configs.as_ptr(), book.configs.len(), book.symbols.as_ptr(), book.symbols.len(),
@@ -338,7 +362,7 @@ fn ready_prices() -> Tally {
 }
 
 /// Both price calls on one book, every value in a drawn context. A value that has no word is held to +infinity: there the Rust indexes past 127.
-fn price_book(random: &mut Random, made: usize, book: &data::Book, tally: &mut Tally, none: &mut Tally) {
+fn price_book(random: &mut Random, made: usize, book: &Book, tally: &mut Tally, none: &mut Tally) {
     let frozen = prices::lent(book);
     for value in 0..=131_071 {
         let context = random.below(14_849) as u32;
@@ -396,7 +420,7 @@ fn price_calls() -> [Tally; 2] {
 }
 
 /// Adds tokens to a tally, or takes them out.
-fn count(add: bool, book: &Book, contexts: &[u32], values: &[u32], counts: &mut [u32], extra: &mut u64) -> u32 {
+fn count(add: bool, book: &data::Book, contexts: &[u32], values: &[u32], counts: &mut [u32], extra: &mut u64) -> u32 {
     let call = if add { rdoq_tally_add } else { rdoq_tally_remove };
     unsafe {
         call(
@@ -435,7 +459,7 @@ fn tallies() -> Tally {
 }
 
 fn main() {
-    let parts = [packing, splitting, block_contexts, count_contexts, coefficient_contexts, levels, weights, candidates, prefix_prices, ready_prices, tallies];
+    let parts = [packing, splitting, block_contexts, count_contexts, coefficient_contexts, levels, weights, candidates, prefix_prices, ans_prices, ready_prices, tallies];
     let mut differences = 0;
     for tally in parts.into_iter().map(|part| part()).chain(std::iter::once_with(price_calls).flatten()) {
         println!("{:<62} {:>11} calls {:>4} differences   {}", tally.name, tally.calls, tally.differences, tally.domain);

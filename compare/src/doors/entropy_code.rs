@@ -1,6 +1,6 @@
-// Price books: handed over as they are, or made from a prefix code by the Rust.
+// Price books: handed over as they are, or made from a prefix code or an ANS code by the Rust.
 
-use super::{FrozenTokenPrices, HybridUintConfig, OwnedEntropyCode, PrefixCode, Token, TokenSlice, ALPHABET_SIZE};
+use super::{AdaptiveRate, AnsHistogram, FrozenTokenPrices, HybridUintConfig, OwnedEntropyCode, PrefixCode, Token, TokenSlice, ALPHABET_SIZE};
 use crate::data::Book;
 
 fn configs(book: &Book) -> Vec<HybridUintConfig> {
@@ -20,14 +20,24 @@ pub(crate) fn lent(book: &Book) -> FrozenTokenPrices {
 
 /// Writes the symbol prices and the ready prices that the Rust makes from prefix codes.
 pub(crate) fn from_prefix(book: &mut Book, prefix_codes: Vec<PrefixCode>) {
+    priced(book, true, prefix_codes, Vec::new());
+}
+
+/// The same from ANS frequencies, 128 a cluster.
+pub(crate) fn from_ans(book: &mut Book, freqs: &[u16]) {
+    let of = |row: &[u16]| AnsHistogram { freqs: row.try_into().unwrap() };
+    priced(book, false, Vec::new(), freqs.chunks_exact(ALPHABET_SIZE).map(of).collect());
+}
+
+fn priced(book: &mut Book, use_prefix_code: bool, prefix_codes: Vec<PrefixCode>, ans_histograms: Vec<AnsHistogram>) {
     let code = OwnedEntropyCode {
         context_map: book.map.clone(),
         prefix_codes,
         hybrid_uint_configs: configs(book),
         orig_context_map: None,
         orig_num_contexts: 0,
-        use_prefix_code: true,
-        ans_histograms: Vec::new(),
+        use_prefix_code,
+        ans_histograms,
         ans_pricing_freqs: Vec::new(),
         ans_symbols: Vec::new(),
         ans_reverse_maps: Vec::new(),
@@ -46,9 +56,18 @@ pub(crate) fn token_bits_pair(prices: &FrozenTokenPrices, context: u32, value: u
 }
 
 /// The counts and the extra bits of a stream, as the Rust adds them to none.
+#[allow(dead_code)]
 pub(crate) fn uses(prices: &FrozenTokenPrices, tokens: &[(u32, u32)]) -> (Vec<u32>, u64) {
     let stream: Vec<Token> = tokens.iter().map(|&(context, value)| Token::new(context, value)).collect();
     let mut rate = prices.adaptive_rate();
     rate.add(TokenSlice(&stream));
+    (rate.counts, rate.extra)
+}
+
+/// A stream added to counts and extra bits that are there.
+#[allow(dead_code)]
+pub(crate) fn added(prices: &FrozenTokenPrices, counts: Vec<u32>, extra: u64, tokens: &[Token]) -> (Vec<u32>, u64) {
+    let mut rate = AdaptiveRate { prices, counts, extra };
+    rate.add(TokenSlice(tokens));
     (rate.counts, rate.extra)
 }

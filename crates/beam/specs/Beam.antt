@@ -77,11 +77,11 @@ pub record Outcome : Type 0 where
 abbrev pub outcomeOf : Answer → List ℤ → List ℕ → Outcome
 outcomeOf answer levels choices = record { answer = answer; levels = levels; choices = choices }
 
--- the first of checks 1 to 14 that refuses; 0 where none does
+-- the number of the first check that refuses; 0 where none does
 unfoldable pub refusal : Window → Book → Block → List ℕ → ℕ
 refusal v book b choices = searchRefusal v book b (beamRoom (v .length) (length choices))
 
--- Refused by a check of 1 to 14, nothing changes; else all of the choices, surplus included, end as 255.
+-- Refused by a check, nothing changes; else all of the choices, surplus included, end as 255.
 unfoldable pub beamOutcome : Window → Book → Block → List ℕ → Outcome
 beamOutcome v book b choices =
     cond (eqb (refusal v book b choices) 0)

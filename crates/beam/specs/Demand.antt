@@ -21,7 +21,7 @@ use Rattle.weights.specs.Window.{windowOf}
 use Rattle.weights.specs.declared.Window.{Window}
 use Rattle.beam.specs.Beam.{Outcome, pathTotal, pathsOf, beamLevels, problem, refusal, beamOutcome}
 
--- Refused with 16 exactly when no check of 1 to 14 refuses and the kept paths all ended at an infinite cost.
+-- Refused with 16 exactly when no check refuses and the kept paths all ended at an infinite cost.
 abbrev pub RefusedExactly : Window → Book → Block → List ℕ → Answer → Type 0
 RefusedExactly v book b choices answer =
     (answer ≡ Refused 16)

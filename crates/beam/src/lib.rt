@@ -22,7 +22,7 @@ pub const BEAM_BYTES: usize = 6;
 // A cap that leaves document 01's window whole.
 const WINDOW_CAP: usize = 1024;
 
-// The search alone, for arguments that no check of 1 to 14 refuses: a window of at most `cap` positions.
+// The search alone, for arguments that no check refuses: a window of at most `cap` positions.
 pub fn search_beam(
     clusters: u32,
     map: &[u8],

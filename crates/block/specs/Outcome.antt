@@ -39,7 +39,7 @@ cleared l =
       rowB = replicate (length (l .rowB)) (inf false);
     }
 
--- refused by one of checks 1 to 14: nothing changes
+-- refused by one of the checks: nothing changes
 abbrev pub refused : ℕ → Lent → Result
 refused number l = record { answer = Refused number; lent = l }
 

@@ -10,6 +10,7 @@ ghost use Rattle.prices.specs.Book.{bookOf};
 ghost use Rattle.prices.specs.Checks.{bookRefusal, fillRefusal};
 ghost use Rattle.book_build.specs.Fill.{filledReady};
 ghost use Rattle.book_build.specs.Prefix.{prefixOf, prefixRefusal, prefixSymbols};
+ghost use Rattle.ans_build.specs.Ans.{ansRefusal, ansSymbols};
 ghost use Rattle.book_calls.specs.Prices.{priceReply, pairReply, Priced, PairPriced};
 
 // The number of the first check among 1 to 6 that a book fails, or 0.
@@ -47,6 +48,15 @@ pub fn prefix_symbol_bits(
     ensures { λ r. ⌜ now (symbols .exit) ≡ prefixSymbols (prefixOf clusters (now (depths .entry)) (now (singles .entry)) strict) (now (symbols .entry)) ⌝ }
 {
     book_build::prefix_symbol_bits(clusters, depths, singles, strict, symbols)
+}
+
+// Writes every symbol price of an ANS code, and answers 0. Otherwise answers 1 or 2, for its own lengths, or 19, and writes nothing. There are 128 frequencies a
+// cluster, each at most 4,096, which is the whole; they need not add up to it. Frequency 0 costs 15.0, any other 12 less its logarithm.
+pub fn ans_symbol_bits(clusters: u32, freqs: &[u16], symbols: &mut [f32]) -> u32
+    ensures { λ r. ⌜ r ≡ ansRefusal clusters (now (freqs .entry)) (now (symbols .entry)) ⌝ }
+    ensures { λ r. ⌜ now (symbols .exit) ≡ ansSymbols clusters (now (freqs .entry)) (now (symbols .entry)) ⌝ }
+{
+    ans_build::ans_symbol_bits(clusters, freqs, symbols)
 }
 
 // What `token_bits` answers, here and over a view.

@@ -6,6 +6,7 @@ ghost use Rattle.prices.specs.Book.{bookOf};
 ghost use Rattle.prices.specs.Checks.{bookRefusal, fillRefusal};
 ghost use Rattle.book_build.specs.Fill.{filledReady};
 ghost use Rattle.book_build.specs.Prefix.{prefixOf, prefixRefusal, prefixSymbols};
+ghost use Rattle.ans_build.specs.Ans.{ansRefusal, ansSymbols};
 ghost use Rattle.book_calls.specs.Prices.{priceReply, pairReply};
 ghost use Rattle.c_answers.specs.Told.{realCode, realAfter, pairCode, firstAfter, secondAfter};
 
@@ -51,6 +52,15 @@ pub extern "C" fn rdoq_prefix_symbol_bits(
     ensures { λ _. ⌜ now (symbols .exit) ≡ prefixSymbols (prefixOf clusters (now (depths .entry)) (now (singles .entry)) strict) (now (symbols .entry)) ⌝ }
 {
     book_calls::book::prefix_symbol_bits(clusters, depths, singles, strict, symbols)
+}
+
+// Writes every symbol price of an ANS code.
+#[no_mangle]
+pub extern "C" fn rdoq_ans_symbol_bits(clusters: u32, freqs: &[u16], symbols: &mut [f32]) -> u32
+    ensures { λ r. ⌜ r ≡ ansRefusal clusters (now (freqs .entry)) (now (symbols .entry)) ⌝ }
+    ensures { λ _. ⌜ now (symbols .exit) ≡ ansSymbols clusters (now (freqs .entry)) (now (symbols .entry)) ⌝ }
+{
+    book_calls::book::ans_symbol_bits(clusters, freqs, symbols)
 }
 
 // Writes the price of a value in a context.

@@ -11,7 +11,7 @@ ghost use Rattle.block.specs.Checks.{enoughRoom, searchRefusal};
 ghost use Rattle.prices.specs.Book.{bookOf};
 ghost use Rattle.weights.specs.Window.{windowFor};
 
-// Checks 1 to 14 of a search of a window of at most `cap` positions: the number of the first that fails, or 0. The search asks for `bytes` choice bytes a position and
+// The checks of a search of a window of at most `cap` positions: the number of the first that fails, or 0. The search asks for `bytes` choice bytes a position and
 // `floats` costs in each row; of the room only the lengths count.
 pub fn check_search(
     clusters: u32,

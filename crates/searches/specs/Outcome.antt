@@ -59,7 +59,7 @@ pub record PromisedIn (w : ℕ) (v : Window) (search : Search) (book : Book) (b 
 abbrev pub Promised : Search → Book → Block → Lent → Result → Type 0
 Promised search book b before after = PromisedIn halfWidth (windowOf (covered b)) search book b before after
 
--- by a beam's answer: whether no check of 1 to 14 refused it
+-- by a beam's answer: whether no check refused it
 unfoldable pub wasSearched : Answer → Bool
 wasSearched (Cost cost count) = true
 wasSearched (Count count) = true

@@ -19,7 +19,7 @@ pub enum Search {
     Trellis,
 }
 
-// Whether the beam searched: no check of 1 to 14 refused.
+// Whether the beam searched: no check refused.
 fn was_searched(answer: Answer) -> bool
     ensures { λ r. ⌜ r ≡ wasSearched answer ⌝ }
 {

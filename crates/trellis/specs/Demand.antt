@@ -23,7 +23,7 @@ use Rattle.weights.specs.Window.{windowOf}
 use Rattle.weights.specs.declared.Window.{Window}
 use Rattle.trellis.specs.Outcome.{refusal, bandedOutcome}
 
--- Refused with 15 exactly when no check of 1 to 14 refuses and every choice in the band needs a token of infinite price.
+-- Refused with 15 exactly when no check refuses and every choice in the band needs a token of infinite price.
 abbrev pub RefusedExactly : ℕ → Window → Book → Block → Lent → Answer → Type 0
 RefusedExactly w v book b l answer =
     (answer ≡ Refused 15)

@@ -29,11 +29,11 @@ written w v book b =
     let p = problemOf w v book b in
     cond (finite (leastTotal p)) (put (b .scan) (leastLevels p) (covered b) (v .length) (b .levels)) (b .levels)
 
--- the first of checks 1 to 14 that refuses; 0 where none does
+-- the number of the first check that refuses; 0 where none does
 unfoldable pub refusal : ℕ → Window → Book → Block → Lent → ℕ
 refusal w v book b l = searchRefusal v book b (trellisRoom w (v .length) (length (l .choices)) (length (l .rowA)) (length (l .rowB)))
 
--- Refused by a check of 1 to 14, nothing changes; else the room is cleared. The lent levels are the block's.
+-- Refused by a check, nothing changes; else the room is cleared. The lent levels are the block's.
 unfoldable pub bandedOutcome : ℕ → Window → Book → Block → Lent → Result
 bandedOutcome w v book b l =
     cond (eqb (refusal w v book b l) 0)

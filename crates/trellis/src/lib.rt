@@ -20,7 +20,7 @@ pub const HALF_WIDTH: usize = 6;
 
 pub const WINDOW_CAP: usize = 1024;
 
-// The search alone, for arguments that no check of 1 to 14 refuses: a band of half-width `width`, a window of at most `cap` positions.
+// The search alone, for arguments that no check refuses: a band of half-width `width`, a window of at most `cap` positions.
 pub fn search_banded(
     clusters: u32,
     map: &[u8],
@@ -152,7 +152,7 @@ pub fn rdoq_block_banded_in(
 
 // Writes the levels of a least-cost choice in the band, and answers its cost and its count of nonzero levels from scan position c on; or
 // refuses with 15 where every choice there needs a token of infinite price. Both ways the choice bytes end as 255 and the rows as
-// +infinity, surplus included. Room: 28 choice bytes a window position, and two rows of 28. Refused by one of checks 1 to 14, nothing changes. A level written may be 32,768 in size, which check 12 refuses in a
+// +infinity, surplus included. Room: 28 choice bytes a window position, and two rows of 28. Refused by one of the checks, nothing changes. A level written may be 32,768 in size, which check 12 refuses in a
 // later call.
 pub fn rdoq_block_banded(
     clusters: u32,

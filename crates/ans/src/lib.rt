@@ -1,0 +1,2 @@
+// The table of ANS prices, ready in code.
+pub mod table;

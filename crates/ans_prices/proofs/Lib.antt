@@ -1,0 +1,3 @@
+pub mod Prices
+mod Tested
+pub mod Whole

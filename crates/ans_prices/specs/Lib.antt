@@ -1,0 +1,2 @@
+pub mod Ans
+pub mod Table
