@@ -46,7 +46,7 @@
 //! Nothing panics on bad input: what can't be used is refused by a [`Refusal`], and a refused block keeps every level. The
 //! types see to pointers and lengths. What is left:
 //!
-//! - **Stack.** A call into the library takes at most [`STACK_BYTES`] (16 KB) of its thread's stack.
+//! - **Stack.** A call into the library takes at most [`STACK_BYTES`] (20 KB) of its thread's stack.
 //! - **Floating point** is as a program starts: rounding to nearest, subnormal numbers kept. Where a C library built with
 //!   `-ffast-math` flushes them to zero, or the rounding was changed, a rightly filled book may get
 //!   [`Refusal::ReadyPrice`], and answers are not the defined ones.

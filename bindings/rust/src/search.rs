@@ -7,7 +7,7 @@ use alloc::{vec, vec::Vec};
 use core::fmt;
 
 /// No call into the library takes more of its thread's stack.
-pub const STACK_BYTES: usize = 16_384;
+pub const STACK_BYTES: usize = 20_480;
 
 /// The floats of a cost row.
 const ROW: usize = 28;

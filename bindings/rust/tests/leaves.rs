@@ -2,7 +2,7 @@
 use rdoq::{
     candidates, chroma_weight, distortion_weight, fine_block_context, fine_non_zero_context, fine_zero_density_contexts_offset,
     lambda, level, pack_signed, uint_encode_with_config, window_len, zero_density_context, zero_density_context_8x8, Bias, Book,
-    BookBuilder, Config, Pricing, Refusal, Split, Window, CONTEXTS, SYMBOLS,
+    BookBuilder, Config, Pricing, Refusal, Split, Window, CONTEXTS, READY, STACK_BYTES, STORE_RECORD, STORE_RUNS, SYMBOLS,
 };
 use std::collections::HashSet;
 
@@ -311,4 +311,23 @@ fn the_ends_of_each_domain() {
     outside(book.token_bits(0, 131_072));
     outside(book.token_bits_pair(14_849, 0));
     outside(book.token_bits_pair(u32::MAX, 0));
+}
+
+#[test]
+fn the_constants_are_the_headers() {
+    let path = concat!(env!("CARGO_MANIFEST_DIR"), "/../../include/rdoq.h");
+    let header = match std::fs::read_to_string(path) {
+        Ok(header) => header,
+        Err(_) => return println!("{path} is missing, as in a package of the crate alone"),
+    };
+    for (name, value) in [
+        ("CONTEXTS", CONTEXTS),
+        ("SYMBOLS", SYMBOLS),
+        ("READY", READY),
+        ("STORE_RUNS", STORE_RUNS),
+        ("STORE_RECORD", STORE_RECORD),
+        ("STACK_BYTES", STACK_BYTES),
+    ] {
+        assert!(header.contains(&format!("#define RDOQ_{name} {value}u")), "{name} is not {value} in the header");
+    }
 }

@@ -408,10 +408,25 @@ fn the_biases_are_those_of_the_rust() {
     assert!(Bias::DEFAULT.iter().all(|bias| bias.numerator == 0.145));
 }
 
+/// What a call may take, and a margin for the start of a thread and for the test itself.
+const SMALL_STACK: usize = STACK_BYTES + 32 * 1_024;
+
+#[test]
+fn a_small_stack_serves_the_builders() {
+    let build = || {
+        let builder = BookBuilder::new(vec![0; CONTEXTS], &[[4, 2, 0]]);
+        let ans = builder.clone().ans_code(&[32; SYMBOLS])?.fill()?;
+        let prefix = builder.prefix_code(&[7; SYMBOLS], &[0], rdoq::Pricing::Strict)?.fill()?;
+        ans.check()?;
+        // 128 words of 7 bits, or of 32 parts in 4,096
+        Ok::<bool, Refusal>(ans == prefix)
+    };
+    let thread = thread::Builder::new().stack_size(SMALL_STACK).spawn(build).unwrap();
+    assert_eq!(thread.join().unwrap(), Ok(true));
+}
+
 #[test]
 fn a_small_stack_serves_every_size() {
-    // the margin is for the start of a thread and for this test
-    let stack = STACK_BYTES + 32 * 1_024;
     for (side, strategy) in [(1, 0), (32, 24)] {
         let size = 64 * (side * side) as usize;
         let mut given = Given::seeded(8);
@@ -421,7 +436,7 @@ fn a_small_stack_serves_every_size() {
         given.inv_qm = vec![1.0; size];
         given.levels = given.levels.iter().copied().cycle().take(size).collect();
         let answers = move || SEARCHES.map(|search| given.run(search, &mut Room::new()).0.is_ok());
-        let thread = thread::Builder::new().stack_size(stack).spawn(answers).unwrap();
+        let thread = thread::Builder::new().stack_size(SMALL_STACK).spawn(answers).unwrap();
         assert_eq!(thread.join().unwrap(), [true; 3], "{side}");
     }
 }
