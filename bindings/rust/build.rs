@@ -1,7 +1,7 @@
-//! Links the static library that `make library` writes.
+//! Links the static library that `make library` writes. Where it is missing the crate is checked and documented all the same:
+//! only linking needs it.
 use std::env;
 use std::path::PathBuf;
-use std::process::exit;
 
 fn main() {
     println!("cargo:rerun-if-env-changed=RDOQ_LIB_DIR");
@@ -11,12 +11,16 @@ fn main() {
     };
     let archive = dir.join("librdoq_c.a");
     println!("cargo:rerun-if-changed={}", archive.display());
-    if !archive.is_file() {
-        eprintln!("rdoq: {} is missing.", archive.display());
-        eprintln!("Run `make library` at the root of the repository,");
-        eprintln!("or set RDOQ_LIB_DIR to the folder that holds librdoq_c.a.");
-        exit(1);
-    }
     println!("cargo:rustc-link-search=native={}", dir.display());
-    println!("cargo:rustc-link-lib=static=rdoq_c");
+    if archive.is_file() {
+        println!("cargo:rustc-link-lib=static=rdoq_c");
+    } else {
+        println!(
+            "cargo:warning={} is missing, so nothing can be linked: run `make library` at the root of the repository, \
+             or set RDOQ_LIB_DIR to the folder that holds librdoq_c.a",
+            archive.display()
+        );
+        // not looked for before a program is linked, which then names it
+        println!("cargo:rustc-link-lib=static:-bundle=rdoq_c");
+    }
 }

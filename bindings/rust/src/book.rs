@@ -1,5 +1,8 @@
 use crate::ffi;
 use crate::refusal::{answered, Refusal};
+use crate::short::Short;
+use alloc::{vec, vec::Vec};
+use core::fmt;
 
 /// The contexts of a map.
 pub const CONTEXTS: usize = 14_850;
@@ -11,7 +14,7 @@ pub const READY: usize = 256;
 /// What each token costs, in bits. Made by [`BookBuilder`].
 ///
 /// A book may be shared by any number of searches at once.
-#[derive(Clone, Debug, PartialEq)]
+#[derive(Clone, PartialEq)]
 pub struct Book {
     clusters: u32,
     map: Vec<u8>,
@@ -32,6 +35,11 @@ impl Book {
     }
 
     /// Checks 1 to 6. A book from [`BookBuilder::fill`] passes.
+    ///
+    /// # Errors
+    ///
+    /// The first of [`MapLength`](Refusal::MapLength), [`BookLength`](Refusal::BookLength), [`MapEntry`](Refusal::MapEntry),
+    /// [`Configuration`](Refusal::Configuration), [`SymbolPrice`](Refusal::SymbolPrice), [`ReadyPrice`](Refusal::ReadyPrice).
     pub fn check(&self) -> Result<(), Refusal> {
         let (map, configs, symbols, ready) = (&self.map, &self.configs, &self.symbols, &self.ready);
         // SAFETY: each pointer comes with the length of its slice, and the call reads within it.
@@ -52,6 +60,10 @@ impl Book {
 
     /// The price of a value of at most 131,071 in a context below 14,850. A value whose symbol is above 127 has no word and costs +infinity: with 5,2,2 from
     /// 2,048 on, with 6,3,0 from 16,384 on. So does a block's count of nonzero levels: large dense blocks can meet refusals 15 and 16.
+    ///
+    /// # Errors
+    ///
+    /// [`Refusal::Domain`] where the context, the value or a length of the book is wrong, or an entry that the price is made of.
     pub fn token_bits(&self, context: u32, value: u32) -> Result<f32, Refusal> {
         let (map, configs, symbols, ready) = (&self.map, &self.configs, &self.symbols, &self.ready);
         let mut bits = 0.0;
@@ -76,6 +88,10 @@ impl Book {
     }
 
     /// The prices of a value in a context and the next one.
+    ///
+    /// # Errors
+    ///
+    /// [`Refusal::Domain`] where [`token_bits`](Book::token_bits) gives it in either context.
     pub fn token_bits_pair(&self, context: u32, value: u32) -> Result<(f32, f32), Refusal> {
         let (map, configs, symbols, ready) = (&self.map, &self.configs, &self.symbols, &self.ready);
         let (mut first, mut second) = (0.0, 0.0);
@@ -123,6 +139,18 @@ impl Book {
     /// 256 prices a cluster: those of the values 0 to 255.
     pub fn ready(&self) -> &[f32] {
         &self.ready
+    }
+}
+
+impl fmt::Debug for Book {
+    fn fmt(&self, f: &mut fmt::Formatter<'_>) -> fmt::Result {
+        f.debug_struct("Book")
+            .field("clusters", &self.clusters)
+            .field("map", &Short(self.map.len()))
+            .field("configs", &Short(self.configs.len()))
+            .field("symbols", &Short(self.symbols.len()))
+            .field("ready", &Short(self.ready.len()))
+            .finish()
     }
 }
 
@@ -181,7 +209,7 @@ pub enum Pricing {
 /// assert_eq!([book.token_bits(0, 0)?, book.token_bits(0, 2)?, book.token_bits(0, 3)?], [1.0, 2.0, 15.0]);
 /// # Ok::<(), rdoq::Refusal>(())
 /// ```
-#[derive(Clone, Debug)]
+#[derive(Clone)]
 pub struct BookBuilder {
     clusters: u32,
     map: Vec<u8>,
@@ -204,6 +232,11 @@ impl BookBuilder {
 
     /// Prices the symbols by a prefix code: 128 depths for each cluster, and a byte for each cluster that is not 0 where its code has a single symbol.
     /// A depth costs itself, or 0.0 where it is the only one; [`Pricing`] says what a depth of 0 costs. A cluster whose depths are all 0 costs 15 bits throughout.
+    ///
+    /// # Errors
+    ///
+    /// [`MapLength`](Refusal::MapLength) where the clusters are not 1 to 256, then [`BookLength`](Refusal::BookLength) where
+    /// the depths are not 128 or the flags not 1 for each of them.
     pub fn prefix_code(mut self, depths: &[u8], singles: &[u8], pricing: Pricing) -> Result<BookBuilder, Refusal> {
         let mut symbols = vec![0.0; SYMBOLS * self.configs.len() / 3];
         // SAFETY: each pointer comes with the length of its slice; only `symbols` is written.
@@ -224,7 +257,12 @@ impl BookBuilder {
     }
 
     /// Prices the symbols by an ANS code: 128 frequencies for each cluster, 4,096 being the whole. Frequency 0 costs 15 bits, any other 12 less its logarithm,
-    /// by the original's routine on a float's bits. Refused with [`Frequency`](Refusal::Frequency) where one is above 4,096; they need not add up to it.
+    /// by the original's routine on a float's bits. They need not add up to 4,096.
+    ///
+    /// # Errors
+    ///
+    /// [`MapLength`](Refusal::MapLength) where the clusters are not 1 to 256, then [`BookLength`](Refusal::BookLength) where
+    /// the frequencies are not 128 for each of them, then [`Frequency`](Refusal::Frequency) where one is above 4,096.
     pub fn ans_code(mut self, freqs: &[u16]) -> Result<BookBuilder, Refusal> {
         let mut symbols = vec![0.0; SYMBOLS * self.configs.len() / 3];
         // SAFETY: each pointer comes with the length of its slice; only `symbols` is written.
@@ -236,6 +274,11 @@ impl BookBuilder {
     }
 
     /// Fills the ready prices. The book passes [`Book::check`].
+    ///
+    /// # Errors
+    ///
+    /// The first of [`MapLength`](Refusal::MapLength), [`BookLength`](Refusal::BookLength), [`MapEntry`](Refusal::MapEntry),
+    /// [`Configuration`](Refusal::Configuration), [`SymbolPrice`](Refusal::SymbolPrice).
     pub fn fill(self) -> Result<Book, Refusal> {
         let BookBuilder { clusters, map, configs, symbols } = self;
         let mut ready = vec![0.0; READY * configs.len() / 3];
@@ -254,5 +297,16 @@ impl BookBuilder {
             )
         })?;
         Ok(Book { clusters, map, configs, symbols, ready })
+    }
+}
+
+impl fmt::Debug for BookBuilder {
+    fn fmt(&self, f: &mut fmt::Formatter<'_>) -> fmt::Result {
+        f.debug_struct("BookBuilder")
+            .field("clusters", &self.clusters)
+            .field("map", &Short(self.map.len()))
+            .field("configs", &Short(self.configs.len()))
+            .field("symbols", &Short(self.symbols.len()))
+            .finish()
     }
 }

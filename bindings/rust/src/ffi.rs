@@ -1,5 +1,5 @@
 //! The functions of `include/rdoq.h`. A slice goes over as a pointer and a length.
-use std::os::raw::c_float;
+use core::ffi::c_float;
 
 extern "C" {
     pub fn rdoq_check_book(
@@ -73,5 +73,16 @@ extern "C" {
 
 /// `rdoq_tally_add` and `rdoq_tally_remove`.
 pub type TallyCall = unsafe extern "C" fn(
-    u32, *const u8, usize, *const u8, usize, *const u32, usize, *const u32, usize, *mut u32, usize, *mut u64,
+    u32,
+    *const u8,
+    usize,
+    *const u8,
+    usize,
+    *const u32,
+    usize,
+    *const u32,
+    usize,
+    *mut u32,
+    usize,
+    *mut u64,
 ) -> u32;

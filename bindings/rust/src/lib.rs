@@ -1,10 +1,9 @@
-//! The level search of a JPEG XL encoder for one block: weighs distortion against the price of the tokens that would be written, and re-picks the levels.
+//! RDOQ, rate-distortion optimised quantisation, for JPEG XL encoders: the level search of one block. It weighs distortion
+//! against the price of the tokens that would be written, and re-picks the levels.
 //!
-//! The work is done by a library in Rattle whose functions are proved to meet their contracts; this crate is a safe wrapper of its C interface. An encoder
-//! keeps its rate control and its bit writing, builds a [`Book`] for its entropy code, and calls [`rdoq_block`] for each block.
-//!
-//! Nothing panics on bad input: what can't be used is refused by a [`Refusal`], and a refused block keeps every level. Calls touch only what is lent
-//! to them, so any number may run at once; each thread needs a [`Room`] of its own.
+//! The work is done by a library in Rattle, a Rust-like language in which every function is proved to meet its contract; this
+//! crate is a safe wrapper of its C interface. An encoder keeps its rate control and its bit writing, builds a [`Book`] for its
+//! entropy code, and calls [`rdoq_block`] for each block.
 //!
 //! ```
 //! use rdoq::{rdoq_block, Bias, Block, BookBuilder, Refusal, Room, Search, Settings, Shape, CONTEXTS, SYMBOLS};
@@ -16,8 +15,8 @@
 //! let source: Vec<f32> = (0..64).map(|i| 5.9 / (1.0 + i as f32)).collect();
 //! let block = Block {
 //!     shape: Shape { cx: 1, cy: 1, strategy: 0, channel: 1, qf_hi: false, predicted: 4 },
-//!     settings: Settings { channel_weight: 1.0, lambda: 0.1, penalty: 1.0, distance: 1.0 },
-//!     bias: Bias::new(0.9),
+//!     settings: Settings { lambda: 0.1, ..Settings::default() },
+//!     bias: Bias::default(),
 //!     scale: 1.0,
 //!     scan: &scan,
 //!     source: &source,
@@ -35,13 +34,78 @@
 //! }
 //! # Ok::<(), Refusal>(())
 //! ```
-#![warn(rust_2018_idioms)]
+//!
+//! # Proved, tested, assumed
+//!
+//! - Proved of the library: each call answers what its definition says, a refusal exactly outside its domain, on every input.
+//! - Tested: this wrapper, and that the searches choose the levels of jixel, the Rust crate that the library ports.
+//! - Assumed: Rattle's checker and compiler, and a caller's duties.
+//!
+//! # Duties
+//!
+//! Nothing panics on bad input: what can't be used is refused by a [`Refusal`], and a refused block keeps every level. The
+//! types see to pointers and lengths. What is left:
+//!
+//! - **Stack.** A call into the library takes at most [`STACK_BYTES`] (20 KB) of its thread's stack.
+//! - **Floating point** is as a program starts: rounding to nearest, subnormal numbers kept. Where a C library built with
+//!   `-ffast-math` flushes them to zero, or the rounding was changed, a rightly filled book may get
+//!   [`Refusal::ReadyPrice`], and answers are not the defined ones.
+//! - **Threads.** Calls touch only what is lent to them, so any number may run at once and share a book; each thread needs
+//!   a [`Room`] of its own.
+//! - **Linking** needs `librdoq_c.a`, x86-64 Linux: from `make library`, or in the folder that `RDOQ_LIB_DIR` names.
+//!   `cargo check` and `cargo doc` do not need it.
+//!
+//! # Coming from jixel
+//!
+//! What jixel's `rdoq_block` takes, in its order:
+//!
+//! | jixel | Here |
+//! |---|---|
+//! | `channel_weight` | [`Settings::channel_weight`] |
+//! | `prices: &FrozenTokenPrices` | `&`[`Book`]; from [`BookBuilder::prefix_code`] or [`BookBuilder::ans_code`] |
+//! | `scan` | [`Block::scan`]: 64 indices for each covered block, each index once |
+//! | `source` | [`Block::source`] |
+//! | `inv_qm` | [`Block::inv_qm`] |
+//! | `q_scaled` | [`Block::scale`] |
+//! | `block` | the argument `levels` of [`rdoq_block`] |
+//! | `raw_strategy` | none: no answer depends on it |
+//! | `strategy_code` | [`Shape::strategy`]; it must cover `cx` × `cy` |
+//! | `c` | [`Shape::channel`] |
+//! | `bias: DequantBias` | [`Block::bias`]; `DequantBias::DEFAULT` is [`Bias::DEFAULT`] |
+//! | `predicted` | [`Shape::predicted`] |
+//! | `cx`, `cy` | [`Shape::cx`], [`Shape::cy`] |
+//! | `distance` | [`Settings::distance`] |
+//! | `qf_hi` | [`Shape::qf_hi`] |
+//! | `lambda` | [`Settings::lambda`]; `rdoq_lambda` is [`lambda()`] |
+//! | `restore_penalty` | [`Settings::penalty`] |
+//! | `search: RdoqSearch` | [`Search`] |
+//! | `scratch: &mut RdoqScratch` | `&mut` [`Room`] |
+//! | (no result) | [`Answer`], or a [`Refusal`] in place of a panic |
+//!
+//! The explicit biases of `DequantBias::channels` have a numerator other than 0.145 and are refused
+//! ([`Refusal::Settings`]).
+//!
+//! Of its other functions `pack_signed`, `uint_encode_with_config`, `fine_block_context`, `fine_non_zero_context`,
+//! `fine_zero_density_contexts_offset`, `zero_density_context` and `zero_density_context_8x8` have their names here;
+//! `FrozenTokenPrices::token_bits` and `token_bits_pair` are [`Book`]'s; `DequantBias::level` is [`level`]; `rdoq_candidates`,
+//! `rdoq_distortion_weight` and `rdoq_window_len` go without `rdoq_`; `chroma_rdoq_weight` is [`chroma_weight`].
+//!
+//! # Features
+//!
+//! `std`, on by default: [`Refusal`] is a `std::error::Error`. Without it the crate needs `core` and `alloc` alone.
+#![no_std]
+#![warn(missing_docs, rust_2018_idioms, clippy::missing_errors_doc, clippy::incompatible_msrv)]
+
+extern crate alloc;
+#[cfg(feature = "std")]
+extern crate std;
 
 mod book;
 mod ffi;
 mod leaves;
 mod refusal;
 mod search;
+mod short;
 mod store;
 mod tally;
 
@@ -52,6 +116,6 @@ pub use leaves::{
     Window,
 };
 pub use refusal::Refusal;
-pub use search::{rdoq_block, Answer, Bias, Block, Room, Search, Settings, Shape};
+pub use search::{rdoq_block, Answer, Bias, Block, Room, Search, Settings, Shape, STACK_BYTES};
 pub use store::{TokenStore, STORE_RECORD, STORE_RUNS};
 pub use tally::Tally;

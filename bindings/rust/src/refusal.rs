@@ -1,5 +1,4 @@
-use std::error::Error;
-use std::fmt;
+use core::fmt;
 
 /// Why a call did not answer. Each refusal has the number that the library returns; [`Display`](fmt::Display) says what to mend.
 ///
@@ -67,6 +66,9 @@ pub enum Refusal {
     BufferShort = 36,
     /// A store's record has a run outside the room, two that overlap, or a number twice.
     StoreRecord = 37,
+    /// The library returned a code that this crate does not know: the two are not of one state of the repository. What the
+    /// call wrote is not known either. No check has this number, so [`from_number`](Refusal::from_number) does not answer it.
+    Unknown = 255,
 }
 
 const ALL: &[Refusal] = &[
@@ -99,7 +101,7 @@ const ALL: &[Refusal] = &[
 ];
 
 impl Refusal {
-    /// The number that the library returns for it.
+    /// The number that the library returns for it; 255 for [`Unknown`](Refusal::Unknown).
     pub fn number(self) -> u8 {
         self as u8
     }
@@ -137,6 +139,7 @@ impl Refusal {
             Refusal::NotHeld => "no run is held under the block number: put one first",
             Refusal::BufferShort => "the buffer is shorter than the run: lend as many tokens as `TokenStore::run_len` says",
             Refusal::StoreRecord => "the record is no store's: a run lies outside the room, two overlap, or a number is out of range or there twice; keep room and record as the last call left them",
+            Refusal::Unknown => "the library returned a code that this crate does not know: build librdoq_c.a and the crate from one state of the repository",
         }
     }
 }
@@ -147,15 +150,32 @@ impl fmt::Display for Refusal {
     }
 }
 
-impl Error for Refusal {}
+#[cfg(feature = "std")]
+impl std::error::Error for Refusal {}
 
 /// A code of the library as a result.
 pub(crate) fn answered(code: u32) -> Result<(), Refusal> {
-    if code == 0 {
-        return Ok(());
+    match code {
+        0 => Ok(()),
+        _ => Err(u8::try_from(code).ok().and_then(Refusal::from_number).unwrap_or(Refusal::Unknown)),
     }
-    match u8::try_from(code).ok().and_then(Refusal::from_number) {
-        Some(refusal) => Err(refusal),
-        None => panic!("librdoq_c.a returned {code}, which this crate does not know: build both from one state of the repository"),
+}
+
+#[cfg(test)]
+mod tests {
+    use super::{answered, Refusal, ALL};
+    use alloc::string::ToString;
+
+    #[test]
+    fn a_code_that_is_not_known_is_an_error() {
+        assert_eq!(answered(0), Ok(()));
+        for &refusal in ALL {
+            assert_eq!(answered(u32::from(refusal.number())), Err(refusal));
+        }
+        // 257 and 274 are those whose lowest byte is a refusal's
+        for code in [38, 254, 255, 256, 257, 274, u32::MAX] {
+            assert_eq!(answered(code), Err(Refusal::Unknown), "{code}");
+        }
+        assert!(Refusal::Unknown.to_string().starts_with("refusal 255: "));
     }
 }

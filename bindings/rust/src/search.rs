@@ -2,11 +2,19 @@ use crate::book::Book;
 use crate::ffi;
 use crate::leaves::window_len;
 use crate::refusal::{answered, Refusal};
+use crate::short::Short;
+use alloc::{vec, vec::Vec};
+use core::fmt;
+
+/// No call into the library takes more of its thread's stack.
+pub const STACK_BYTES: usize = 20_480;
 
 /// The floats of a cost row.
 const ROW: usize = 28;
 /// The choice bytes of a window position, for the trellis.
 const CHOICES: usize = 28;
+/// And for the beam.
+const BEAM_CHOICES: usize = 6;
 /// The longest window.
 const LONGEST: usize = 1_024;
 
@@ -39,6 +47,13 @@ pub struct Shape {
 }
 
 /// What a search weighs distortion and bits by.
+///
+/// Fields may be added: name those that you set, and take the others from [`Settings::default`].
+///
+/// ```
+/// let settings = rdoq::Settings { lambda: 0.1, distance: 2.0, ..rdoq::Settings::default() };
+/// assert_eq!(settings, rdoq::Settings::new(0.1, 2.0));
+/// ```
 #[derive(Clone, Copy, Debug, PartialEq)]
 pub struct Settings {
     /// The channel's weight, 2^-10 to 2^10.
@@ -51,6 +66,21 @@ pub struct Settings {
     pub distance: f32,
 }
 
+impl Settings {
+    /// Settings with a channel weight and a penalty of 1.
+    pub fn new(lambda: f32, distance: f32) -> Settings {
+        Settings { lambda, distance, ..Settings::default() }
+    }
+}
+
+/// 1 throughout: distortion and restored levels at their own price, and distance 1. Lambda is the encoder's own (see
+/// [`lambda`](crate::lambda())); 1 stands for none.
+impl Default for Settings {
+    fn default() -> Settings {
+        Settings { channel_weight: 1.0, lambda: 1.0, penalty: 1.0, distance: 1.0 }
+    }
+}
+
 /// One channel's bias: how a decoder restores a level.
 #[derive(Clone, Copy, Debug, PartialEq)]
 pub struct Bias {
@@ -61,14 +91,24 @@ pub struct Bias {
 }
 
 impl Bias {
+    /// The biases of X, Y and B that a decoder uses where the file gives none.
+    pub const DEFAULT: [Bias; 3] = [Bias::new(1.0 - 0.054_650_073), Bias::new(1.0 - 0.070_054_5), Bias::new(1.0 - 0.049_935_103)];
+
     /// The bias with the standard's numerator.
-    pub fn new(one: f32) -> Bias {
+    pub const fn new(one: f32) -> Bias {
         Bias { one, numerator: 0.145 }
     }
 }
 
+/// That of Y in [`Bias::DEFAULT`].
+impl Default for Bias {
+    fn default() -> Bias {
+        Bias::DEFAULT[1]
+    }
+}
+
 /// A block without its levels. The lists hold 64 numbers for each covered block.
-#[derive(Clone, Copy, Debug, PartialEq)]
+#[derive(Clone, Copy, PartialEq)]
 pub struct Block<'a> {
     /// Its place in the format.
     pub shape: Shape,
@@ -86,15 +126,32 @@ pub struct Block<'a> {
     pub inv_qm: &'a [f32],
 }
 
+impl fmt::Debug for Block<'_> {
+    fn fmt(&self, f: &mut fmt::Formatter<'_>) -> fmt::Result {
+        f.debug_struct("Block")
+            .field("shape", &self.shape)
+            .field("settings", &self.settings)
+            .field("bias", &self.bias)
+            .field("scale", &self.scale)
+            .field("scan", &Short(self.scan.len()))
+            .field("source", &Short(self.source.len()))
+            .field("inv_qm", &Short(self.inv_qm.len()))
+            .finish()
+    }
+}
+
 /// Working room, to be used again by any number of searches, one at a time.
 ///
-/// After an answer of the beam or the trellis, and after refusals 15 and 16, all of it is cleared: choice bytes at 255, rows at +infinity. A room that
-/// fits the block, from [`Room::for_covered`], is cleared sooner than a larger one.
-#[derive(Clone, Debug, PartialEq)]
+/// After an answer of the beam or the trellis, and after refusals 15 and 16, all of it is cleared: choice bytes at 255, rows at
+/// +infinity. The library clears what it is lent, so a search is lent what its block needs and no more: one room of
+/// [`Room::new`] serves small blocks as fast as one of [`Room::for_covered`].
+#[derive(Clone)]
 pub struct Room {
     choices: Vec<u8>,
     row_a: Vec<f32>,
     row_b: Vec<f32>,
+    /// All of it is cleared, so that what is not lent stays so.
+    cleared: bool,
 }
 
 impl Room {
@@ -104,17 +161,22 @@ impl Room {
     }
 
     /// Room for every search on blocks of a number of covered blocks, a power of two up to 1,024.
+    ///
+    /// # Errors
+    ///
+    /// [`Refusal::Domain`] for any other number.
     pub fn for_covered(covered_blocks: u32) -> Result<Room, Refusal> {
         Ok(Room::with_window(window_len(covered_blocks)?.length))
     }
 
-    /// Room from parts, of any length. Too small a room is refused by the search.
+    /// Room from parts, of any length. Too small a room is refused by the search. It is lent whole until a search has cleared it.
     pub fn from_parts(choices: Vec<u8>, row_a: Vec<f32>, row_b: Vec<f32>) -> Room {
-        Room { choices, row_a, row_b }
+        Room { choices, row_a, row_b, cleared: false }
     }
 
     fn with_window(length: usize) -> Room {
-        Room::from_parts(vec![255; CHOICES * length], vec![f32::INFINITY; ROW], vec![f32::INFINITY; ROW])
+        let row = vec![f32::INFINITY; ROW];
+        Room { choices: vec![255; CHOICES * length], row_a: row.clone(), row_b: row, cleared: true }
     }
 
     /// The choice bytes.
@@ -126,6 +188,25 @@ impl Room {
     pub fn rows(&self) -> (&[f32], &[f32]) {
         (&self.row_a, &self.row_b)
     }
+
+    /// What a search needs on a block; all of the room where that would leave a part uncleared, or where there is no such block.
+    fn lend(&mut self, search: Search, shape: Shape) -> (&mut [u8], &mut [f32], &mut [f32]) {
+        let Room { choices, row_a, row_b, cleared } = self;
+        let window = shape.cx.checked_mul(shape.cy).filter(|_| *cleared).and_then(|covered| window_len(covered).ok());
+        let (bytes, floats) = match (window, search) {
+            (None, _) => (usize::MAX, usize::MAX),
+            (Some(_), Search::Greedy) => (0, 0),
+            (Some(window), Search::Beam) => (BEAM_CHOICES * window.length, 0),
+            (Some(window), Search::Trellis) => (CHOICES * window.length, ROW),
+        };
+        (front(choices, bytes), front(row_a, floats), front(row_b, floats))
+    }
+}
+
+/// The first of a list, as many as there are.
+fn front<T>(list: &mut [T], length: usize) -> &mut [T] {
+    let length = length.min(list.len());
+    &mut list[..length]
 }
 
 impl Default for Room {
@@ -134,8 +215,26 @@ impl Default for Room {
     }
 }
 
+/// By what it holds.
+impl PartialEq for Room {
+    fn eq(&self, other: &Room) -> bool {
+        self.choices == other.choices && self.rows() == other.rows()
+    }
+}
+
+impl fmt::Debug for Room {
+    fn fmt(&self, f: &mut fmt::Formatter<'_>) -> fmt::Result {
+        f.debug_struct("Room")
+            .field("choices", &Short(self.choices.len()))
+            .field("row_a", &Short(self.row_a.len()))
+            .field("row_b", &Short(self.row_b.len()))
+            .finish()
+    }
+}
+
 /// What a search found.
 #[derive(Clone, Copy, Debug, PartialEq)]
+#[non_exhaustive]
 pub struct Answer {
     /// The cost of the levels that were written. Greedy answers none.
     pub cost: Option<f32>,
@@ -146,6 +245,21 @@ pub struct Answer {
 /// Re-picks the levels of a block, in place.
 ///
 /// A refused block keeps every level. After every refusal but 15 and 16 the room is as it was too.
+///
+/// # Errors
+///
+/// The first check that fails, in this order:
+///
+/// - of the book: [`MapLength`](Refusal::MapLength), [`BookLength`](Refusal::BookLength), [`MapEntry`](Refusal::MapEntry),
+///   [`Configuration`](Refusal::Configuration), [`SymbolPrice`](Refusal::SymbolPrice), [`ReadyPrice`](Refusal::ReadyPrice);
+/// - of the block: [`BlockSide`](Refusal::BlockSide), [`BlockLength`](Refusal::BlockLength), [`Strategy`](Refusal::Strategy),
+///   [`Sides`](Refusal::Sides), [`Settings`](Refusal::Settings), [`Scan`](Refusal::Scan), [`Level`](Refusal::Level),
+///   [`Ideal`](Refusal::Ideal);
+/// - [`Room`](Refusal::Room);
+/// - what the search may find: [`BandInfinite`](Refusal::BandInfinite) the trellis, [`PathsInfinite`](Refusal::PathsInfinite)
+///   the beam, greedy nothing.
+///
+/// # Examples
 ///
 /// ```
 /// use rdoq::{rdoq_block, Bias, Block, BookBuilder, Room, Search, Settings, Shape, CONTEXTS, SYMBOLS};
@@ -180,10 +294,10 @@ pub fn rdoq_block(search: Search, book: &Book, block: &Block<'_>, levels: &mut [
     };
     let (map, configs, symbols, ready) = (book.map(), book.configs(), book.symbols(), book.ready());
     let Block { shape, settings, bias, scale, scan, source, inv_qm } = *block;
-    let Room { choices, row_a, row_b } = room;
+    let (choices, row_a, row_b) = room.lend(search, shape);
     let (mut cost, mut count) = (f32::NAN, 0);
     // SAFETY: each pointer comes with the length of its slice. What is written is borrowed mutably, so it overlaps nothing else.
-    answered(unsafe {
+    let reply = answered(unsafe {
         ffi::rdoq_block(
             which,
             book.clusters(),
@@ -225,10 +339,55 @@ pub fn rdoq_block(search: Search, book: &Book, block: &Block<'_>, levels: &mut [
             &mut cost,
             &mut count,
         )
-    })?;
+    });
+    room.cleared = match (reply, search) {
+        // all that was lent is cleared, and what was not was so before
+        (Ok(()), Search::Beam | Search::Trellis) | (Err(Refusal::BandInfinite | Refusal::PathsInfinite), _) => true,
+        (Err(Refusal::Unknown), _) => false,
+        // nothing has changed
+        _ => room.cleared,
+    };
+    reply?;
     let cost = match search {
         Search::Greedy => None,
         Search::Beam | Search::Trellis => Some(cost),
     };
     Ok(Answer { cost, count })
+}
+
+#[cfg(test)]
+mod tests {
+    use super::{Room, Search, Shape};
+    use alloc::vec;
+
+    fn lent(room: &mut Room, search: Search, cx: u32, cy: u32) -> (usize, usize, usize) {
+        let shape = Shape { cx, cy, strategy: 0, channel: 1, qf_hi: false, predicted: 0 };
+        let (choices, row_a, row_b) = room.lend(search, shape);
+        (choices.len(), row_a.len(), row_b.len())
+    }
+
+    #[test]
+    fn a_search_is_lent_what_it_needs() {
+        let mut room = Room::new();
+        for (cx, cy, window) in [(1, 1, 63), (1, 2, 126), (2, 2, 252), (4, 4, 1_008), (4, 8, 1_024), (32, 32, 1_024)] {
+            assert_eq!(lent(&mut room, Search::Greedy, cx, cy), (0, 0, 0));
+            assert_eq!(lent(&mut room, Search::Beam, cx, cy), (6 * window, 0, 0));
+            assert_eq!(lent(&mut room, Search::Trellis, cx, cy), (28 * window, 28, 28));
+        }
+        // no block, so that the search refuses the sides
+        for (cx, cy) in [(0, 1), (3, 1), (64, 64), (65_536, 65_536)] {
+            assert_eq!(lent(&mut room, Search::Beam, cx, cy), (28 * 1_024, 28, 28));
+        }
+        // too small a room is lent whole
+        let mut small = Room::for_covered(1).unwrap();
+        assert_eq!(lent(&mut small, Search::Trellis, 2, 2), (28 * 63, 28, 28));
+    }
+
+    #[test]
+    fn what_is_not_cleared_is_lent_whole() {
+        let mut room = Room::from_parts(vec![255; 2_000], vec![0.0; 30], vec![0.0; 29]);
+        for search in [Search::Greedy, Search::Beam, Search::Trellis] {
+            assert_eq!(lent(&mut room, search, 1, 1), (2_000, 30, 29));
+        }
+    }
 }

@@ -1,5 +1,8 @@
 use crate::ffi;
 use crate::refusal::{answered, Refusal};
+use crate::short::Short;
+use alloc::{vec, vec::Vec};
+use core::fmt;
 
 /// The block numbers of a store: 0 to 1,023.
 pub const STORE_RUNS: usize = 1_024;
@@ -26,7 +29,7 @@ pub const STORE_RECORD: usize = 3_073;
 /// assert_eq!(store.get(900), Err(Refusal::NotHeld));
 /// # Ok::<(), Refusal>(())
 /// ```
-#[derive(Clone, Debug, PartialEq, Eq)]
+#[derive(Clone, PartialEq, Eq)]
 pub struct TokenStore {
     room: Vec<u64>,
     record: Vec<u64>,
@@ -43,7 +46,11 @@ impl TokenStore {
         TokenStore { room, record }
     }
 
-    /// Holds the tokens under a block number, in place of a run already there. Refused with [`BlockNumber`](Refusal::BlockNumber), or with
+    /// Holds the tokens under a block number, in place of a run already there.
+    ///
+    /// # Errors
+    ///
+    /// [`StoreRecord`](Refusal::StoreRecord) where the parts are no store's, [`BlockNumber`](Refusal::BlockNumber), then
     /// [`StoreFull`](Refusal::StoreFull) where the tokens of the other runs and these exceed the room.
     pub fn put(&mut self, block: u32, tokens: &[u64]) -> Result<(), Refusal> {
         let (room, record) = (&mut self.room, &mut self.record);
@@ -61,15 +68,23 @@ impl TokenStore {
         })
     }
 
-    /// Gives the room of a run back. Refused with [`BlockNumber`](Refusal::BlockNumber) or [`NotHeld`](Refusal::NotHeld).
+    /// Gives the room of a run back.
+    ///
+    /// # Errors
+    ///
+    /// The first of [`StoreRecord`](Refusal::StoreRecord), [`BlockNumber`](Refusal::BlockNumber), [`NotHeld`](Refusal::NotHeld).
     pub fn drop(&mut self, block: u32) -> Result<(), Refusal> {
         let (room, record) = (&self.room, &mut self.record);
         // SAFETY: as in `put`.
         answered(unsafe { ffi::rdoq_store_drop(room.as_ptr(), room.len(), record.as_mut_ptr(), record.len(), block) })
     }
 
-    /// Copies a run to the front of `tokens`, changes nothing past it, and answers its length. Refused with [`BlockNumber`](Refusal::BlockNumber),
-    /// [`NotHeld`](Refusal::NotHeld), or [`BufferShort`](Refusal::BufferShort).
+    /// Copies a run to the front of `tokens`, changes nothing past it, and answers its length.
+    ///
+    /// # Errors
+    ///
+    /// The first of [`StoreRecord`](Refusal::StoreRecord), [`BlockNumber`](Refusal::BlockNumber), [`NotHeld`](Refusal::NotHeld),
+    /// [`BufferShort`](Refusal::BufferShort).
     pub fn read(&self, block: u32, tokens: &mut [u64]) -> Result<usize, Refusal> {
         let (room, record) = (&self.room, &self.record);
         let mut length = 0;
@@ -90,6 +105,10 @@ impl TokenStore {
     }
 
     /// A run as a vector.
+    ///
+    /// # Errors
+    ///
+    /// The first of [`StoreRecord`](Refusal::StoreRecord), [`BlockNumber`](Refusal::BlockNumber), [`NotHeld`](Refusal::NotHeld).
     pub fn get(&self, block: u32) -> Result<Vec<u64>, Refusal> {
         let mut tokens = vec![0; self.run_len(block).unwrap_or(0)];
         let length = self.read(block, &mut tokens)?;
@@ -121,5 +140,15 @@ impl TokenStore {
     fn runs(&self) -> impl Iterator<Item = &[u64]> {
         let count = self.record.first().copied().unwrap_or(0).min(STORE_RUNS as u64) as usize;
         self.record.get(1..).unwrap_or(&[]).chunks_exact(3).take(count)
+    }
+}
+
+impl fmt::Debug for TokenStore {
+    fn fmt(&self, f: &mut fmt::Formatter<'_>) -> fmt::Result {
+        f.debug_struct("TokenStore")
+            .field("runs", &self.runs().count())
+            .field("room", &Short(self.room.len()))
+            .field("record", &Short(self.record.len()))
+            .finish()
     }
 }

@@ -1,6 +1,9 @@
 use crate::book::{Book, SYMBOLS};
 use crate::ffi;
 use crate::refusal::{answered, Refusal};
+use crate::short::Short;
+use alloc::{vec, vec::Vec};
+use core::fmt;
 
 /// How often a batch uses each symbol of each cluster, and how many extra bits in all: what a code for the batch is made from.
 ///
@@ -19,7 +22,7 @@ use crate::refusal::{answered, Refusal};
 /// # Ok(())
 /// # }
 /// ```
-#[derive(Clone, Debug, PartialEq, Eq)]
+#[derive(Clone, PartialEq, Eq)]
 pub struct Tally {
     counts: Vec<u32>,
     extra: u64,
@@ -58,8 +61,10 @@ impl Tally {
     ///
     /// # Errors
     ///
-    /// Refusals 1 to 4 of the book's code (the tally has 128 counts for each of its clusters: 2), 17 where the lists differ in length, a context is above 14,849 or a value
-    /// above 131,071, and 27 where a count would pass 2^32 - 1 or the total 2^64 - 1.
+    /// In this order: [`MapLength`](Refusal::MapLength); [`BookLength`](Refusal::BookLength), also where the tally has not 128
+    /// counts for each cluster of the book; [`MapEntry`](Refusal::MapEntry); [`Configuration`](Refusal::Configuration);
+    /// [`Domain`](Refusal::Domain) where the lists differ in length, a context is above 14,849 or a value above 131,071;
+    /// [`TallyFull`](Refusal::TallyFull) where a count would pass 2^32 - 1 or the total 2^64 - 1.
     pub fn add(&mut self, book: &Book, contexts: &[u32], values: &[u32]) -> Result<(), Refusal> {
         self.count_tokens(ffi::rdoq_tally_add, book, contexts, values)
     }
@@ -68,7 +73,8 @@ impl Tally {
     ///
     /// # Errors
     ///
-    /// As [`add`](Tally::add), with 28 in place of 27: a count or the total would fall below 0.
+    /// As [`add`](Tally::add), with [`TallyEmpty`](Refusal::TallyEmpty) in place of the last: a count or the total would fall
+    /// below 0.
     pub fn remove(&mut self, book: &Book, contexts: &[u32], values: &[u32]) -> Result<(), Refusal> {
         self.count_tokens(ffi::rdoq_tally_remove, book, contexts, values)
     }
@@ -92,5 +98,11 @@ impl Tally {
                 &mut self.extra,
             )
         })
+    }
+}
+
+impl fmt::Debug for Tally {
+    fn fmt(&self, f: &mut fmt::Formatter<'_>) -> fmt::Result {
+        f.debug_struct("Tally").field("counts", &Short(self.counts.len())).field("extra", &self.extra).finish()
     }
 }

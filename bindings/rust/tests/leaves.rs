@@ -2,10 +2,9 @@
 use rdoq::{
     candidates, chroma_weight, distortion_weight, fine_block_context, fine_non_zero_context, fine_zero_density_contexts_offset,
     lambda, level, pack_signed, uint_encode_with_config, window_len, zero_density_context, zero_density_context_8x8, Bias, Book,
-    BookBuilder, Config, Pricing, Refusal, Split, Window, CONTEXTS, SYMBOLS,
+    BookBuilder, Config, Pricing, Refusal, Split, Window, CONTEXTS, READY, STACK_BYTES, STORE_RECORD, STORE_RUNS, SYMBOLS,
 };
 use std::collections::HashSet;
-use std::error::Error;
 
 const OUTSIDE: Refusal = Refusal::Domain;
 
@@ -23,8 +22,7 @@ fn refusals_have_their_numbers() {
     for number in (1..=19).chain(27..=28).chain(33..=37) {
         let refusal = Refusal::from_number(number).unwrap();
         assert_eq!(refusal.number(), number);
-        let error: Box<dyn Error> = Box::new(refusal);
-        let text = error.to_string();
+        let text = refusal.to_string();
         assert!(text.starts_with(&format!("refusal {number}: ")), "{text}");
         assert!(texts.insert(text));
     }
@@ -33,6 +31,13 @@ fn refusals_have_their_numbers() {
     assert_eq!(Refusal::StoreRecord.number(), 37);
     assert_eq!(Refusal::Ideal.number(), 13);
     assert_eq!(Refusal::BandInfinite.number(), 15);
+}
+
+#[cfg(feature = "std")]
+#[test]
+fn a_refusal_is_an_error() {
+    let error: Box<dyn std::error::Error> = Box::new(Refusal::Domain);
+    assert_eq!(error.to_string(), Refusal::Domain.to_string());
 }
 
 #[test]
@@ -257,5 +262,72 @@ fn candidate_levels() {
     assert_eq!(candidates(-32_767.0, 32_767, true).map(|list| list[0]), Ok(32_767));
     for (ideal, current) in [(f32::NAN, 0), (32_768.0, 0), (0.0, 32_768), (0.0, -32_768)] {
         assert_eq!(candidates(ideal, current, true), Err(OUTSIDE));
+    }
+}
+
+/// What the `# Errors` sections say: each domain at its ends, and just outside.
+#[test]
+fn the_ends_of_each_domain() {
+    fn inside<T>(reply: Result<T, Refusal>) {
+        assert_eq!(reply.err(), None);
+    }
+    fn outside<T>(reply: Result<T, Refusal>) {
+        assert_eq!(reply.err(), Some(OUTSIDE));
+    }
+    inside(fine_non_zero_context(u32::MAX, 29));
+    outside(fine_non_zero_context(0, 30));
+    // the last position of the smallest and of the largest block, and the first with every level nonzero
+    for (left, k, covered) in [(1, 63, 1), (63, 1, 1), (1, 65_535, 1_024), (64_512, 1_024, 1_024)] {
+        inside(zero_density_context(left, k, covered, 1));
+        outside(zero_density_context(left + 1, k, covered, 1));
+        outside(zero_density_context(left, k, covered, 2));
+        outside(zero_density_context(0, k, covered, 1));
+    }
+    for (k, covered) in [(0, 1), (64, 1), (1_023, 1_024), (65_536, 1_024), (3, 3), (2_048, 2_048), (0, 0)] {
+        outside(zero_density_context(1, k, covered, 0));
+    }
+    for (left, k) in [(1, 63), (63, 1)] {
+        inside(zero_density_context_8x8(left, k, 1));
+        outside(zero_density_context_8x8(left + 1, k, 1));
+        outside(zero_density_context_8x8(left, k, 2));
+    }
+    inside(level(Bias::new(0.0), 32_768));
+    inside(level(Bias::new(2.0), -32_768));
+    outside(level(Bias::new(1.0), 32_769));
+    outside(level(Bias::new(f32::NAN), 0));
+    inside(lambda(f32::NAN, f32::INFINITY, -1.0));
+    outside(lambda(1.0, 1.0, f32::NAN));
+    inside(distortion_weight(1_024, 1_024, 25.0));
+    outside(distortion_weight(2, 1, 1.0));
+    outside(distortion_weight(0, 1_025, 1.0));
+    outside(distortion_weight(0, 1, f32::NAN));
+    inside(candidates(-32_767.0, 32_767, true));
+    outside(candidates(f32::NAN, 1, true));
+    outside(candidates(0.0, -32_768, true));
+    let book = builder().symbol_prices(vec![1.0; SYMBOLS]).fill().unwrap();
+    inside(book.token_bits(14_849, 131_071));
+    inside(book.token_bits_pair(14_848, 131_071));
+    outside(book.token_bits(14_850, 0));
+    outside(book.token_bits(0, 131_072));
+    outside(book.token_bits_pair(14_849, 0));
+    outside(book.token_bits_pair(u32::MAX, 0));
+}
+
+#[test]
+fn the_constants_are_the_headers() {
+    let path = concat!(env!("CARGO_MANIFEST_DIR"), "/../../include/rdoq.h");
+    let header = match std::fs::read_to_string(path) {
+        Ok(header) => header,
+        Err(_) => return println!("{path} is missing, as in a package of the crate alone"),
+    };
+    for (name, value) in [
+        ("CONTEXTS", CONTEXTS),
+        ("SYMBOLS", SYMBOLS),
+        ("READY", READY),
+        ("STORE_RUNS", STORE_RUNS),
+        ("STORE_RECORD", STORE_RECORD),
+        ("STACK_BYTES", STACK_BYTES),
+    ] {
+        assert!(header.contains(&format!("#define RDOQ_{name} {value}u")), "{name} is not {value} in the header");
     }
 }

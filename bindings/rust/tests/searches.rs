@@ -1,5 +1,8 @@
 //! The searches, on blocks whose answers are worked out by hand, and on blocks that are to be refused.
-use rdoq::{rdoq_block, Answer, Bias, Block, Book, BookBuilder, Refusal, Room, Search, Settings, Shape, CONTEXTS, READY, SYMBOLS};
+use rdoq::{
+    rdoq_block, Answer, Bias, Block, Book, BookBuilder, Refusal, Room, Search, Settings, Shape, CONTEXTS, READY, STACK_BYTES,
+    SYMBOLS,
+};
 use std::thread;
 
 const SEARCHES: [Search; 3] = [Search::Greedy, Search::Beam, Search::Trellis];
@@ -88,6 +91,11 @@ fn used_room() -> Room {
     Room::from_parts(vec![7; 28 * 63 + 5], vec![3.5; 30], vec![-4.5; 29])
 }
 
+/// What an answer says.
+fn told(answer: Answer) -> (Option<f32>, u32) {
+    (answer.cost, answer.count)
+}
+
 fn is_cleared(room: &Room) -> bool {
     let (row_a, row_b) = room.rows();
     room.choices().iter().all(|&b| b == 255) && row_a.iter().chain(row_b).all(|&x| x == f32::INFINITY)
@@ -99,7 +107,7 @@ fn a_block_of_zeros_costs_lambda() {
         let given = Given::zero();
         let (reply, levels) = given.run(search, &mut Room::new());
         let cost = if search == Search::Greedy { None } else { Some(LAMBDA) };
-        assert_eq!(reply, Ok(Answer { cost, count: 0 }), "{search:?}");
+        assert_eq!(reply.map(told), Ok((cost, 0)), "{search:?}");
         assert_eq!(levels, given.levels);
     }
 }
@@ -109,7 +117,7 @@ fn infinite_prices() {
     let mut given = Given::zero();
     given.book = book(f32::INFINITY);
     let mut room = used_room();
-    assert_eq!(given.run(Search::Greedy, &mut room).0, Ok(Answer { cost: None, count: 0 }));
+    assert_eq!(given.run(Search::Greedy, &mut room).0.map(told), Ok((None, 0)));
     assert_eq!(room, used_room());
     for (search, refusal) in [(Search::Beam, Refusal::PathsInfinite), (Search::Trellis, Refusal::BandInfinite)] {
         given.levels[5] = 3;
@@ -132,7 +140,7 @@ fn a_level_that_is_not_worth_its_bits_goes() {
     for search in SEARCHES {
         let (reply, levels) = given.run(search, &mut Room::new());
         let cost = if search == Search::Greedy { None } else { Some(100.25) };
-        assert_eq!(reply, Ok(Answer { cost, count: 0 }), "{search:?}");
+        assert_eq!(reply.map(told), Ok((cost, 0)), "{search:?}");
         assert_eq!(levels, vec![0; 64], "{search:?}");
     }
 }
@@ -147,7 +155,7 @@ fn a_level_that_is_worth_its_bits_stays() {
     for search in SEARCHES {
         let (reply, levels) = given.run(search, &mut Room::new());
         let cost = if search == Search::Greedy { None } else { Some(0.125) };
-        assert_eq!(reply, Ok(Answer { cost, count: 1 }), "{search:?}");
+        assert_eq!(reply.map(told), Ok((cost, 1)), "{search:?}");
         assert_eq!(levels, given.levels, "{search:?}");
     }
 }
@@ -344,4 +352,103 @@ fn calls_at_once_answer_the_same() {
             }
         }
     });
+}
+
+#[test]
+fn a_room_of_any_size_gives_the_same_answer_and_ends_cleared() {
+    for seed in 0..20 {
+        let given = Given::seeded(seed);
+        for search in SEARCHES {
+            let fitting = given.run(search, &mut Room::for_covered(1).unwrap());
+            let mut large = Room::new();
+            let mut stale = Room::from_parts(vec![7; 28_672], vec![3.5; 40], vec![f32::NAN; 50]);
+            for _ in 0..2 {
+                assert_eq!(given.run(search, &mut large), fitting);
+                assert_eq!(given.run(search, &mut stale), fitting);
+                assert!(is_cleared(&large));
+                assert_eq!(is_cleared(&stale), search != Search::Greedy, "{search:?}");
+            }
+        }
+    }
+}
+
+#[test]
+fn a_refused_search_leaves_the_rest_of_the_room_to_the_next() {
+    // first a refusal, then greedy, which touch no room: the trellis after them clears all of it
+    let mut room = used_room();
+    let mut wrong = Given::seeded(6);
+    wrong.scale = f32::NAN;
+    assert_eq!(wrong.run(Search::Trellis, &mut room).0, Err(Refusal::Ideal));
+    assert!(Given::seeded(6).run(Search::Greedy, &mut room).0.is_ok());
+    assert_eq!(room, used_room());
+    assert!(Given::seeded(6).run(Search::Trellis, &mut room).0.is_ok());
+    assert!(is_cleared(&room));
+}
+
+#[test]
+fn the_defaults_pass_every_check() {
+    let mut given = Given::seeded(7);
+    given.settings = Settings::default();
+    for bias in Bias::DEFAULT {
+        given.bias = bias;
+        for search in SEARCHES {
+            assert!(given.run(search, &mut Room::new()).0.is_ok());
+        }
+    }
+    assert_eq!(Settings::new(1.0, 1.0), Settings::default());
+    assert_eq!(Bias::default(), Bias::DEFAULT[1]);
+}
+
+#[test]
+#[allow(clippy::excessive_precision)]
+fn the_biases_are_those_of_the_rust() {
+    // its text: 1.0 less each of these as f32
+    let less: [f32; 3] = [0.05465007330715401, 0.07005449891748593, 0.049935103337343655];
+    assert_eq!(Bias::DEFAULT.map(|bias| bias.one), less.map(|x| 1.0 - x));
+    assert!(Bias::DEFAULT.iter().all(|bias| bias.numerator == 0.145));
+}
+
+/// What a call may take, and a margin for the start of a thread and for the test itself.
+const SMALL_STACK: usize = STACK_BYTES + 32 * 1_024;
+
+#[test]
+fn a_small_stack_serves_the_builders() {
+    let build = || {
+        let builder = BookBuilder::new(vec![0; CONTEXTS], &[[4, 2, 0]]);
+        let ans = builder.clone().ans_code(&[32; SYMBOLS])?.fill()?;
+        let prefix = builder.prefix_code(&[7; SYMBOLS], &[0], rdoq::Pricing::Strict)?.fill()?;
+        ans.check()?;
+        // 128 words of 7 bits, or of 32 parts in 4,096
+        Ok::<bool, Refusal>(ans == prefix)
+    };
+    let thread = thread::Builder::new().stack_size(SMALL_STACK).spawn(build).unwrap();
+    assert_eq!(thread.join().unwrap(), Ok(true));
+}
+
+#[test]
+fn a_small_stack_serves_every_size() {
+    for (side, strategy) in [(1, 0), (32, 24)] {
+        let size = 64 * (side * side) as usize;
+        let mut given = Given::seeded(8);
+        given.shape = Shape { cx: side, cy: side, strategy, ..given.shape };
+        given.scan = (0..size as u32).collect();
+        given.source = given.source.iter().copied().cycle().take(size).collect();
+        given.inv_qm = vec![1.0; size];
+        given.levels = given.levels.iter().copied().cycle().take(size).collect();
+        let answers = move || SEARCHES.map(|search| given.run(search, &mut Room::new()).0.is_ok());
+        let thread = thread::Builder::new().stack_size(SMALL_STACK).spawn(answers).unwrap();
+        assert_eq!(thread.join().unwrap(), [true; 3], "{side}");
+    }
+}
+
+#[test]
+fn debug_says_how_many_and_not_each() {
+    let given = Given::zero();
+    assert_eq!(format!("{:?}", given.book), "Book { clusters: 1, map: [14850], configs: [3], symbols: [128], ready: [256] }");
+    assert_eq!(format!("{:?}", Room::new()), "Room { choices: [28672], row_a: [28], row_b: [28] }");
+    let builder = BookBuilder::new(vec![0; CONTEXTS], &[[4, 2, 0]]);
+    assert_eq!(format!("{builder:?}"), "BookBuilder { clusters: 1, map: [14850], configs: [3], symbols: [0] }");
+    let Given { shape, settings, bias, scale, scan, source, inv_qm, .. } = given;
+    let block = Block { shape, settings, bias, scale, scan: &scan, source: &source, inv_qm: &inv_qm };
+    assert!(format!("{block:?}").ends_with("scale: 1.0, scan: [64], source: [64], inv_qm: [64] }"), "{block:?}");
 }

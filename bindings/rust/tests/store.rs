@@ -246,3 +246,10 @@ fn all_1024_runs_and_a_full_record() {
     twice[1_023][0] = 1_023;
     refused(1_024, record(1_024, &twice), "the last run has the first one's number");
 }
+
+#[test]
+fn debug_says_how_many_and_not_each() {
+    let mut store = TokenStore::new(5_000);
+    store.put(7, &[1, 2, 3]).unwrap();
+    assert_eq!(format!("{store:?}"), "TokenStore { runs: 1, room: [5000], record: [3073] }");
+}

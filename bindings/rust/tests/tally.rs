@@ -142,3 +142,8 @@ fn refusals_in_their_order() {
     assert_eq!(bad(1, vec![0; CONTEXTS], vec![4, 2, 0]), Err(Refusal::Domain));
     assert_eq!(Tally::new(3).add(&book, &[], &[]), Ok(()));
 }
+
+#[test]
+fn debug_says_how_many_and_not_each() {
+    assert_eq!(format!("{:?}", Tally::new(64)), "Tally { counts: [8192], extra: 0 }");
+}
