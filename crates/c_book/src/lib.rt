@@ -7,8 +7,7 @@ ghost use Rattle.prices.specs.Checks.{bookRefusal, fillRefusal};
 ghost use Rattle.book_build.specs.Fill.{filledReady};
 ghost use Rattle.book_build.specs.Prefix.{prefixOf, prefixRefusal, prefixSymbols};
 ghost use Rattle.ans_build.specs.Ans.{ansRefusal, ansSymbols};
-ghost use Rattle.book_calls.specs.Prices.{priceReply, pairReply};
-ghost use Rattle.c_answers.specs.Told.{realCode, realAfter, pairCode, firstAfter, secondAfter};
+ghost use Rattle.c_book.specs.Prices.{PriceTold, PairTold};
 
 // The first of checks 1 to 6 that a book fails, or 0.
 #[no_mangle]
@@ -75,8 +74,7 @@ pub extern "C" fn rdoq_token_bits(
     value: u32,
     bits: &mut f32,
 ) -> u32
-    ensures { λ r. ⌜ r ≡ realCode (priceReply (bookOf clusters (now (map .entry)) (now (configs .entry)) (now (symbols .entry)) (now (ready .entry))) context value) ⌝ }
-    ensures { λ _. ⌜ now (bits .exit) ≡ realAfter (priceReply (bookOf clusters (now (map .entry)) (now (configs .entry)) (now (symbols .entry)) (now (ready .entry))) context value) (now (bits .entry)) ⌝ }
+    ensures { λ r. ⌜ PriceTold (bookOf clusters (now (map .entry)) (now (configs .entry)) (now (symbols .entry)) (now (ready .entry))) context value (now (bits .entry)) r (now (bits .exit)) ⌝ }
 {
     let answer = book_calls::book::token_bits(
         clusters,
@@ -103,9 +101,7 @@ pub extern "C" fn rdoq_token_bits_pair(
     first: &mut f32,
     second: &mut f32,
 ) -> u32
-    ensures { λ r. ⌜ r ≡ pairCode (pairReply (bookOf clusters (now (map .entry)) (now (configs .entry)) (now (symbols .entry)) (now (ready .entry))) context value) ⌝ }
-    ensures { λ _. ⌜ now (first .exit) ≡ firstAfter (pairReply (bookOf clusters (now (map .entry)) (now (configs .entry)) (now (symbols .entry)) (now (ready .entry))) context value) (now (first .entry)) ⌝ }
-    ensures { λ _. ⌜ now (second .exit) ≡ secondAfter (pairReply (bookOf clusters (now (map .entry)) (now (configs .entry)) (now (symbols .entry)) (now (ready .entry))) context value) (now (second .entry)) ⌝ }
+    ensures { λ r. ⌜ PairTold (bookOf clusters (now (map .entry)) (now (configs .entry)) (now (symbols .entry)) (now (ready .entry))) context value (now (first .entry)) (now (second .entry)) r (now (first .exit)) (now (second .exit)) ⌝ }
 {
     let answer = book_calls::book::token_bits_pair(
         clusters,

@@ -1,5 +1,6 @@
 -- `rdoq_token_bits` meets its contract. Assumes nothing.
 use borrow.Author.Needs.{needs}
+use Rattle.c_book.proofs.Words.{price-told}
 use Rattle.c_book.proofs.rdoq_token_bits.Statement.{statement}
 use Rattle.c_book.proofs.rdoq_token_bits.Tie as tie
 
@@ -10,7 +11,7 @@ tell-real-requires : tie.Need-tell-real-requires
 tell-real-requires c κs = search needs
 
 returns : tie.Need-returns
-returns c = rw (c .before .before .token-bits .ensures .reply) at (c .tell-real .ensures)
+returns c = price-told _ _ _ _ _ (c .before .before .token-bits .ensures) (c .tell-real .ensures)
 
 pub rdoq-token-bits-spec : {M : Type 1} → statement M
 rdoq-token-bits-spec = tie.close (tie.spec token-bits-requires tell-real-requires returns)

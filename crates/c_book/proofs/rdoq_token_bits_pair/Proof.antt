@@ -1,5 +1,6 @@
 -- `rdoq_token_bits_pair` meets its contract. Assumes nothing.
 use borrow.Author.Needs.{needs}
+use Rattle.c_book.proofs.Words.{pair-told}
 use Rattle.c_book.proofs.rdoq_token_bits_pair.Statement.{statement}
 use Rattle.c_book.proofs.rdoq_token_bits_pair.Tie as tie
 
@@ -10,7 +11,7 @@ tell-pair-requires : tie.Need-tell-pair-requires
 tell-pair-requires c κs = search needs
 
 returns : tie.Need-returns
-returns c = rw (c .before .before .before .token-bits-pair .ensures .reply) at (c .tell-pair .ensures)
+returns c = pair-told _ _ _ _ _ _ (c .before .before .before .token-bits-pair .ensures) (c .tell-pair .ensures)
 
 pub rdoq-token-bits-pair-spec : {M : Type 1} → statement M
 rdoq-token-bits-pair-spec =

@@ -1,0 +1,2 @@
+-- What the exported price calls return and write.
+pub mod Prices
