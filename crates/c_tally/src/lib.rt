@@ -1,8 +1,8 @@
 // The tally, for programs in C and in other languages that call C. `include/rdoq.h` declares its calls.
 ghost use mathlib.Core.Path.{_≡_};
 ghost use Rattle.coding.specs.Coding.{codingOf};
-ghost use Rattle.tally.specs.Uses.{tokensOf};
-ghost use Rattle.tally.specs.Tally.{tallyOf, outcomeOf, added, removed};
+ghost use Rattle.tallying.specs.Uses.{tokensOf};
+ghost use Rattle.tallying.specs.Tally.{tallyOf, outcomeOf, added, removed};
 
 // Adds tokens to a tally.
 #[no_mangle]

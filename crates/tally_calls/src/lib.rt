@@ -6,8 +6,8 @@
 // 14,849 or a value above 131,071, then 27 or 28. A refused call leaves the tally as it was.
 ghost use mathlib.Core.Path.{_≡_};
 ghost use Rattle.coding.specs.Coding.{codingOf};
-ghost use Rattle.tally.specs.Uses.{tokensOf};
-ghost use Rattle.tally.specs.Tally.{tallyOf, outcomeOf, added, removed};
+ghost use Rattle.tallying.specs.Uses.{tokensOf};
+ghost use Rattle.tallying.specs.Tally.{tallyOf, outcomeOf, added, removed};
 
 const FULL: u32 = 27;
 
@@ -26,16 +26,16 @@ pub fn tally_add(
     ensures { λ r. ⌜ outcomeOf r (tallyOf (now (counts .exit)) (now (extra .exit)))
         ≡ added (codingOf clusters (now (map .entry)) (now (configs .entry))) (tokensOf (now (contexts .entry)) (now (values .entry))) (tallyOf (now (counts .entry)) (now (extra .entry))) ⌝ }
 {
-    let refusal = tally::check_tokens(clusters, map, configs, contexts, values, counts.len());
+    let refusal = tallying::check_tokens(clusters, map, configs, contexts, values, counts.len());
     if refusal != 0 {
         return refusal;
     }
     let n = contexts.len();
     let total = *extra;
-    let some = tally::add_some(map, configs, contexts, values, n, counts, total);
+    let some = tallying::add_some(map, configs, contexts, values, n, counts, total);
     let done = some.done;
     if done < n {
-        tally::remove_some(map, configs, contexts, values, done, counts, some.extra);
+        tallying::remove_some(map, configs, contexts, values, done, counts, some.extra);
         return FULL;
     }
     *extra = some.extra;
@@ -55,16 +55,16 @@ pub fn tally_remove(
     ensures { λ r. ⌜ outcomeOf r (tallyOf (now (counts .exit)) (now (extra .exit)))
         ≡ removed (codingOf clusters (now (map .entry)) (now (configs .entry))) (tokensOf (now (contexts .entry)) (now (values .entry))) (tallyOf (now (counts .entry)) (now (extra .entry))) ⌝ }
 {
-    let refusal = tally::check_tokens(clusters, map, configs, contexts, values, counts.len());
+    let refusal = tallying::check_tokens(clusters, map, configs, contexts, values, counts.len());
     if refusal != 0 {
         return refusal;
     }
     let n = contexts.len();
     let total = *extra;
-    let some = tally::remove_some(map, configs, contexts, values, n, counts, total);
+    let some = tallying::remove_some(map, configs, contexts, values, n, counts, total);
     let done = some.done;
     if done < n {
-        tally::add_some(map, configs, contexts, values, done, counts, some.extra);
+        tallying::add_some(map, configs, contexts, values, done, counts, some.extra);
         return EMPTY;
     }
     *extra = some.extra;

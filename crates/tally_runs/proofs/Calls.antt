@@ -12,10 +12,10 @@ use Rattle.laws.specs.Refusals.{firstRefused}
 use Rattle.laws.proofs.Tests.{and-left, and-right}
 use Rattle.prices.specs.Checks.{each}
 use Rattle.prices.proofs.Each.{each-below}
-use Rattle.tally.specs.Uses.{Tokens, placeAt, usedAt, extraUsed}
-use Rattle.tally.specs.Tally.{Tally, many, plus, minus, tallyChecks, settled, addable, removable, added, removed}
-use Rattle.tally.proofs.Checks.{own-passed}
-use Rattle.tally.proofs.Entries.{plus-sized, minus-sized, plus-at, minus-at}
+use Rattle.tallying.specs.Uses.{Tokens, placeAt, usedAt, extraUsed}
+use Rattle.tallying.specs.Tally.{Tally, many, plus, minus, tallyChecks, settled, addable, removable, added, removed}
+use Rattle.tallying.proofs.Checks.{own-passed}
+use Rattle.tallying.proofs.Entries.{plus-sized, minus-sized, plus-at, minus-at}
 use Rattle.tally_runs.specs.Runs.{Call, Add, Remove, done, broughtBy, takenBy, extraBrought, extraTaken}
 
 -- what is counted at a place is no more than what was there, where each token's place has enough

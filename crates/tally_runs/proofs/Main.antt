@@ -4,8 +4,8 @@ use mathlib.Core.List.{List, [], _∷_}
 use Prim.Native.Nat.{ℕ, _+_, _-_, _<_}
 use native.Mathlib.Omega.{arith}
 use lib.ListN.{length, getD, replicate, length-replicate, getD-replicate}
-use Rattle.tally.specs.Tally.{Tally, tallyOf, listed}
-use Rattle.tally.proofs.Lists.{listed-is}
+use Rattle.tallying.specs.Tally.{Tally, tallyOf, listed}
+use Rattle.tallying.proofs.Lists.{listed-is}
 use Rattle.tally_runs.specs.Runs.{Call, done, after, answered, zeros, summed, broughtBy, takenBy, extraBrought, extraTaken, afresh, AsSums}
 use Rattle.tally_runs.proofs.Calls.{balanced}
 

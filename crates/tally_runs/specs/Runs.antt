@@ -6,8 +6,8 @@ use mathlib.Core.List.{List, [], _∷_}
 use lib.Dec.{eqb}
 use lib.ListN.{getD, replicate}
 use Rattle.coding.specs.Coding.{Coding}
-use Rattle.tally.specs.Uses.{Tokens, usedAt, extraUsed}
-use Rattle.tally.specs.Tally.{Tally, Outcome, tallyOf, listed, many, added, removed}
+use Rattle.tallying.specs.Uses.{Tokens, usedAt, extraUsed}
+use Rattle.tallying.specs.Tally.{Tally, Outcome, tallyOf, listed, many, added, removed}
 
 -- A call brings its own code and tokens.
 pub data Call : Type 0 where

@@ -7,13 +7,13 @@ use borrow.Author.Needs.{needs}
 use lib.ListN.{length, getD}
 use Rattle.coding.specs.Coding.{Coding, codingOf}
 use Rattle.laws.specs.Refusals.{firstRefused}
-use Rattle.tally.specs.Uses.{Tokens, tokensOf}
-use Rattle.tally.specs.Tally.{Tally, tallyOf, outcomeOf, sharedChecks, plus}
-use Rattle.tally.specs.Counting.{Countable, SomeAdded, SomeRemoved}
-use Rattle.tally.proofs.Checks.{countable}
-use Rattle.tally.proofs.Entries.{plus-sized}
-use Rattle.tally.proofs.Undone.{taken-back}
-use Rattle.tally.proofs.Settled.{add-refused, add-full, add-done}
+use Rattle.tallying.specs.Uses.{Tokens, tokensOf}
+use Rattle.tallying.specs.Tally.{Tally, tallyOf, outcomeOf, sharedChecks, plus}
+use Rattle.tallying.specs.Counting.{Countable, SomeAdded, SomeRemoved}
+use Rattle.tallying.proofs.Checks.{countable}
+use Rattle.tallying.proofs.Entries.{plus-sized}
+use Rattle.tallying.proofs.Undone.{taken-back}
+use Rattle.tallying.proofs.Settled.{add-refused, add-full, add-done}
 use Rattle.tally_calls.proofs.tally_add.Statement.{statement}
 use Rattle.tally_calls.proofs.tally_add.Tie as tie
 

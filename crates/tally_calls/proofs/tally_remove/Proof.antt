@@ -7,13 +7,13 @@ use borrow.Author.Needs.{needs}
 use lib.ListN.{length, getD}
 use Rattle.coding.specs.Coding.{Coding, codingOf}
 use Rattle.laws.specs.Refusals.{firstRefused}
-use Rattle.tally.specs.Uses.{Tokens, tokensOf}
-use Rattle.tally.specs.Tally.{Tally, tallyOf, outcomeOf, sharedChecks, minus}
-use Rattle.tally.specs.Counting.{Countable, SomeRemoved, SomeAdded}
-use Rattle.tally.proofs.Checks.{countable}
-use Rattle.tally.proofs.Entries.{minus-sized}
-use Rattle.tally.proofs.Undone.{put-back}
-use Rattle.tally.proofs.Settled.{remove-refused, remove-empty, remove-done}
+use Rattle.tallying.specs.Uses.{Tokens, tokensOf}
+use Rattle.tallying.specs.Tally.{Tally, tallyOf, outcomeOf, sharedChecks, minus}
+use Rattle.tallying.specs.Counting.{Countable, SomeRemoved, SomeAdded}
+use Rattle.tallying.proofs.Checks.{countable}
+use Rattle.tallying.proofs.Entries.{minus-sized}
+use Rattle.tallying.proofs.Undone.{put-back}
+use Rattle.tallying.proofs.Settled.{remove-refused, remove-empty, remove-done}
 use Rattle.tally_calls.proofs.tally_remove.Statement.{statement}
 use Rattle.tally_calls.proofs.tally_remove.Tie as tie
 

@@ -13,9 +13,9 @@ use Rattle.laws.proofs.Refused.{in-turn, refused-first, all-pass, none-refused,
 use Rattle.laws.proofs.Tests.{and-left, and-right}
 use Rattle.prices.specs.Checks.{each}
 use Rattle.prices.proofs.Each.{each-below, each-fails}
-use Rattle.tally.specs.Uses.{Tokens}
-use Rattle.tally.specs.Tally.{Tally, many, areTokens, sharedChecks, tallyChecks}
-use Rattle.tally.specs.Counting.{Countable}
+use Rattle.tallying.specs.Uses.{Tokens}
+use Rattle.tallying.specs.Tally.{Tally, many, areTokens, sharedChecks, tallyChecks}
+use Rattle.tallying.specs.Counting.{Countable}
 
 -- ---- 17
 module _ (t : Tokens) where

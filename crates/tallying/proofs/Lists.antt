@@ -9,7 +9,7 @@ use borrow.Author.Tests.{eqb-true, eqb-false}
 use lib.Dec.{eqb}
 use lib.ListN.{length, getD, set, length-set}
 use lib.Seq.{getD-set-same, getD-set-other}
-use Rattle.tally.specs.Tally.{listed}
+use Rattle.tallying.specs.Tally.{listed}
 
 pub same-entries : (xs ys : List ℕ) → length xs ≡ length ys → ((i : ℕ) → i < length xs → getD xs i 0 ≡ getD ys i 0) → xs ≡ ys
 same-entries [] [] e h = refl

@@ -4,9 +4,9 @@ use mathlib.Core.Bool.{Bool, cond}
 use Prim.Native.Nat.{ℕ}
 use native.Mathlib.Omega.{arith}
 use borrow.Author.Needs.{needs}
-use Rattle.tally.proofs.Checks.{code-refused, code-passed}
-use Rattle.tally.proofs.check_tokens.Statement.{statement}
-use Rattle.tally.proofs.check_tokens.Tie as tie
+use Rattle.tallying.proofs.Checks.{code-refused, code-passed}
+use Rattle.tallying.proofs.check_tokens.Statement.{statement}
+use Rattle.tallying.proofs.check_tokens.Tie as tie
 
 mul-check-coding : tie.Need-mul-check-coding
 mul-check-coding c = search needs

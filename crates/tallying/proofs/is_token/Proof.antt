@@ -1,7 +1,7 @@
 -- `is_token` meets its contract. Assumes nothing.
 use borrow.Author.Tests.{le-leb, lt-leb}
-use Rattle.tally.proofs.is_token.Statement.{statement}
-use Rattle.tally.proofs.is_token.Tie as tie
+use Rattle.tallying.proofs.is_token.Statement.{statement}
+use Rattle.tallying.proofs.is_token.Tie as tie
 
 returns : tie.Need-returns
 returns c = simp (lt-leb _ _ (c .if1 .taken))

@@ -3,10 +3,10 @@ use mathlib.Core.Path.{_≡_, ap₂}
 use mathlib.Core.Bool.{true, false}
 use mathlib.Core.List.{List}
 use Prim.Native.Nat.{ℕ, _+_, _-_, _≤_, _<_}
-use Rattle.tally.specs.Uses.{Tokens}
-use Rattle.tally.specs.Tally.{Tally, tallyOf, plus, minus}
-use Rattle.tally.specs.Counting.{hasRoom, toAdd, restToAdd, toRemove, SomeAdded, SomeRemoved}
-use Rattle.tally.proofs.Steps.{Going}
+use Rattle.tallying.specs.Uses.{Tokens}
+use Rattle.tallying.specs.Tally.{Tally, tallyOf, plus, minus}
+use Rattle.tallying.specs.Counting.{hasRoom, toAdd, restToAdd, toRemove, SomeAdded, SomeRemoved}
+use Rattle.tallying.proofs.Steps.{Going}
 
 module _ {map configs : List ℕ} {t : Tokens} {n : ℕ} {counts : List ℕ} {extra : ℕ} {held : List ℕ} {total i : ℕ} where
   pub some-added : Going _+_ (toAdd (tallyOf counts extra)) (restToAdd (tallyOf counts extra)) map configs t n counts extra held total i

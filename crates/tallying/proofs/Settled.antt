@@ -11,11 +11,11 @@ use Rattle.coding.specs.Coding.{Coding}
 use Rattle.laws.specs.Refusals.{firstRefused}
 use Rattle.prices.specs.Checks.{each}
 use Rattle.prices.proofs.Each.{each-same}
-use Rattle.tally.specs.Uses.{Tokens, placeAt, usedAt, extraUsed}
-use Rattle.tally.specs.Tally.{Tally, tallyOf, Outcome, outcomeOf, many, sharedChecks, tallyChecks, settled, added, removed, addable, removable, plus, minus}
-use Rattle.tally.specs.Counting.{hasRoom, allRoom, toAdd, restToAdd, toRemove}
-use Rattle.tally.proofs.Checks.{shared-refused, shared-passed}
-use Rattle.tally.proofs.Uses.{all-have, one-lacks}
+use Rattle.tallying.specs.Uses.{Tokens, placeAt, usedAt, extraUsed}
+use Rattle.tallying.specs.Tally.{Tally, tallyOf, Outcome, outcomeOf, many, sharedChecks, tallyChecks, settled, added, removed, addable, removable, plus, minus}
+use Rattle.tallying.specs.Counting.{hasRoom, allRoom, toAdd, restToAdd, toRemove}
+use Rattle.tallying.proofs.Checks.{shared-refused, shared-passed}
+use Rattle.tallying.proofs.Uses.{all-have, one-lacks}
 
 module _ (k : Coding) (t : Tokens) (y : Tally) (own : Bool) (n : ℕ) (after : Tally) where
   first-fails : {r : ℕ} → r ≡ firstRefused (sharedChecks k t (length (y .counts))) 0 → (r ≡ 0 → ⊥) → outcomeOf r y ≡ settled k t y (own, n) after

@@ -8,13 +8,13 @@ use native.Mathlib.Omega.{arith}
 use borrow.Author.Tests.{le-leb, ltb-true, ltb-false}
 use lib.Dec.{leb, ltb}
 use lib.ListN.{length, getD}
-use Rattle.tally.specs.Uses.{Tokens, placeAt, usedAt, extraUsed}
-use Rattle.tally.specs.Tally.{Tally, tallyOf, listed, plus, minus, many}
-use Rattle.tally.specs.Counting.{Countable, hasRoom, toAdd, restToAdd, toRemove, SomeAdded, SomeRemoved}
-use Rattle.tally.proofs.Entries.{plus-sized, minus-sized, plus-at, minus-at}
-use Rattle.tally.proofs.Lists.{listed-is}
-use Rattle.tally.proofs.Steps.{in-places}
-use Rattle.tally.proofs.Uses.{used-some, used-within, extra-within, place-room, extra-room}
+use Rattle.tallying.specs.Uses.{Tokens, placeAt, usedAt, extraUsed}
+use Rattle.tallying.specs.Tally.{Tally, tallyOf, listed, plus, minus, many}
+use Rattle.tallying.specs.Counting.{Countable, hasRoom, toAdd, restToAdd, toRemove, SomeAdded, SomeRemoved}
+use Rattle.tallying.proofs.Entries.{plus-sized, minus-sized, plus-at, minus-at}
+use Rattle.tallying.proofs.Lists.{listed-is}
+use Rattle.tallying.proofs.Steps.{in-places}
+use Rattle.tallying.proofs.Uses.{used-some, used-within, extra-within, place-room, extra-room}
 
 either : (n : ℕ) → (n ≡ 0) ⊎ (1 ≤ n)
 either zero = inl refl

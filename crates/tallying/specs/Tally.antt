@@ -7,7 +7,7 @@ use lib.ListN.{length, getD}
 use Rattle.coding.specs.Coding.{Coding, codingChecks}
 use Rattle.laws.specs.Refusals.{firstRefused}
 use Rattle.prices.specs.Checks.{each}
-use Rattle.tally.specs.Uses.{Tokens, placeAt, usedAt, extraUsed}
+use Rattle.tallying.specs.Uses.{Tokens, placeAt, usedAt, extraUsed}
 
 -- Any tally is one to begin with.
 pub record Tally : Type 0 where

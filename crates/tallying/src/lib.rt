@@ -8,9 +8,9 @@ ghost use lib.ListN.{length, getD};
 ghost use Rattle.coding.specs.Coding.{Coded, codingOf};
 ghost use Rattle.laws.specs.Refusals.{firstRefused};
 ghost use Rattle.prices.specs.Book.{clusterSymbol, clusterExtra};
-ghost use Rattle.tally.specs.Uses.{tokensOf};
-ghost use Rattle.tally.specs.Tally.{tallyOf, areTokens, sharedChecks};
-ghost use Rattle.tally.specs.Counting.{Countable, SomeAdded, SomeRemoved};
+ghost use Rattle.tallying.specs.Uses.{tokensOf};
+ghost use Rattle.tallying.specs.Tally.{tallyOf, areTokens, sharedChecks};
+ghost use Rattle.tallying.specs.Counting.{Countable, SomeAdded, SomeRemoved};
 
 // Where a token is counted, and its extra bits.
 struct Use {

@@ -7,10 +7,10 @@ use borrow.Author.Needs.{needs}
 use lib.ListN.{length}
 use Rattle.prices.specs.Checks.{each}
 use Rattle.prices.proofs.Each.{each-more}
-use Rattle.tally.specs.Uses.{tokensOf}
-use Rattle.tally.proofs.Checks.{isToken, other-lengths, no-token, all-tokens}
-use Rattle.tally.proofs.are_tokens.Statement.{statement}
-use Rattle.tally.proofs.are_tokens.Tie as tie
+use Rattle.tallying.specs.Uses.{tokensOf}
+use Rattle.tallying.proofs.Checks.{isToken, other-lengths, no-token, all-tokens}
+use Rattle.tallying.proofs.are_tokens.Statement.{statement}
+use Rattle.tallying.proofs.are_tokens.Tie as tie
 
 abbrev Inv-loop : tie.InvT-loop
 Inv-loop contexts values i₀ i = (i ≤ length contexts) × (each i (isToken (tokensOf contexts values)) ≡ true)

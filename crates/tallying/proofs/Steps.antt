@@ -11,11 +11,11 @@ use borrow.Author.Tests.{le-leb, lt-leb}
 use lib.Dec.{leb}
 use lib.ListN.{length, getD, set}
 use Rattle.prices.specs.Book.{clusterSymbol}
-use Rattle.tally.specs.Uses.{Tokens, clusterAt, placeAt, extraAt, usedAt, extraUsed}
-use Rattle.tally.specs.Tally.{listed, tallyOf, many}
-use Rattle.tally.specs.Counting.{Countable, hasRoom, toAdd, restToAdd, toRemove}
-use Rattle.tally.proofs.Lists.{listed-length, listed-is, listed-at, listed-set}
-use Rattle.tally.proofs.Uses.{used-here, used-else, extra-next}
+use Rattle.tallying.specs.Uses.{Tokens, clusterAt, placeAt, extraAt, usedAt, extraUsed}
+use Rattle.tallying.specs.Tally.{listed, tallyOf, many}
+use Rattle.tallying.specs.Counting.{Countable, hasRoom, toAdd, restToAdd, toRemove}
+use Rattle.tallying.proofs.Lists.{listed-length, listed-is, listed-at, listed-set}
+use Rattle.tallying.proofs.Uses.{used-here, used-else, extra-next}
 
 module _ (map configs : List ℕ) (t : Tokens) (counts : List ℕ) where
   -- the counts after the first n tokens, each of which does `op` to its count

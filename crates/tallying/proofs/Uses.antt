@@ -10,8 +10,8 @@ use lib.Dec.{eqb, leb}
 use Rattle.laws.proofs.Tests.{and-left, and-right}
 use Rattle.prices.specs.Checks.{each}
 use Rattle.prices.proofs.Each.{each-all, each-fails}
-use Rattle.tally.specs.Uses.{Tokens, placeAt, extraAt, usedAt, extraUsed}
-use Rattle.tally.specs.Counting.{hasRoom, allRoom}
+use Rattle.tallying.specs.Uses.{Tokens, placeAt, extraAt, usedAt, extraUsed}
+use Rattle.tallying.specs.Counting.{hasRoom, allRoom}
 
 module _ (map configs : List ℕ) (t : Tokens) where
   pub used-here : (n : ℕ) → usedAt map configs t (suc n) (placeAt map configs t n) ≡ suc (usedAt map configs t n (placeAt map configs t n))

@@ -7,8 +7,8 @@ use lib.Dec.{leb}
 use lib.ListN.{length, getD}
 use Rattle.coding.specs.Coding.{Codes, codingOf}
 use Rattle.prices.specs.Checks.{each}
-use Rattle.tally.specs.Uses.{Tokens, placeAt, usedAt, extraUsed}
-use Rattle.tally.specs.Tally.{Tally, many, plus, minus}
+use Rattle.tallying.specs.Uses.{Tokens, placeAt, usedAt, extraUsed}
+use Rattle.tallying.specs.Tally.{Tally, many, plus, minus}
 
 -- a code with a count for each of its places, and tokens of it
 pub record Countable (map configs : List ℕ) (t : Tokens) (places : ℕ) : Type 0 where

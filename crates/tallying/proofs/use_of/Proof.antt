@@ -5,8 +5,8 @@ use native.Mathlib.Nat.{min-le-right}
 use native.Mathlib.Omega.{arith}
 use borrow.Author.Needs.{needs}
 use lib.ListN.{getD}
-use Rattle.tally.proofs.use_of.Statement.{statement}
-use Rattle.tally.proofs.use_of.Tie as tie
+use Rattle.tallying.proofs.use_of.Statement.{statement}
+use Rattle.tallying.proofs.use_of.Tie as tie
 
 -- the cluster of the context
 within : (c : tie.Start) → getD (c .args .map .now) (c .args .context) 0 < c .pre .0 .clusters

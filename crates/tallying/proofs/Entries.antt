@@ -3,9 +3,9 @@ use mathlib.Core.Path.{_≡_}
 use mathlib.Core.List.{List}
 use Prim.Native.Nat.{ℕ, _+_, _-_, _<_}
 use lib.ListN.{length, getD}
-use Rattle.tally.specs.Uses.{Tokens, usedAt}
-use Rattle.tally.specs.Tally.{Tally, plus, minus}
-use Rattle.tally.proofs.Lists.{listed-length, listed-at}
+use Rattle.tallying.specs.Uses.{Tokens, usedAt}
+use Rattle.tallying.specs.Tally.{Tally, plus, minus}
+use Rattle.tallying.proofs.Lists.{listed-length, listed-at}
 
 module _ (map configs : List ℕ) (t : Tokens) (n : ℕ) (y : Tally) where
   pub plus-sized : length (plus map configs t n y .counts) ≡ length (y .counts)
