@@ -1,5 +1,5 @@
 // The searches, for programs in C and in other languages that call C. `include/rdoq.h` declares their call.
-pub mod candidates;
+pub mod candidate_list;
 
 use bias::DequantBias;
 use block::Shape;

@@ -1,4 +1,4 @@
--- `candidates::rdoq_candidates` meets its contract. Assumes nothing.
+-- `candidate_list::rdoq_candidates` meets its contract. Assumes nothing.
 use mathlib.Core.Path.{refl, ap, _∙_}
 use borrow.Author.Tests.{ne-eqb}
 use lib.IntN.{ℤ}
@@ -8,8 +8,8 @@ use Rattle.level_calls.specs.Levels.{candidatesReply}
 use Rattle.c_answers.specs.Told.{listedCode, levelsAfter, listedCountAfter}
 use Rattle.c_search.proofs.Five.{second, third, fourth, fifth, candidates-written, candidates-kept}
 use borrow.Author.Needs.{needs}
-use Rattle.c_search.proofs.candidates.rdoq_candidates.Statement.{statement}
-use Rattle.c_search.proofs.candidates.rdoq_candidates.Tie as tie
+use Rattle.c_search.proofs.candidate_list.rdoq_candidates.Statement.{statement}
+use Rattle.c_search.proofs.candidate_list.rdoq_candidates.Tie as tie
 
 returns : tie.Need-returns
 unfolding listedCode levelsAfter listedCountAfter
