@@ -5,6 +5,10 @@ set -euo pipefail
 cd "$(dirname "$0")/.."
 out=target/staticlib
 library=$out/librdoq_c.a
+# A library younger than all it is made of stands as it is.
+if [ -e "$library" ] && [ -z "$(find crates include tools/archive.sh "$(command -v rt)" -newer "$library" -print -quit)" ]; then
+    exit 0
+fi
 mkdir -p "$out"
 mapfile -t families < <(grep -l 'no_mangle' crates/*/src/*.rt | cut -d/ -f2 | sort -u)
 merge=$out/merge
