@@ -1,6 +1,7 @@
 # make test       the whole gate: layout, proofs, must-fail edits, programs; then the bindings and a short comparison, where their tools are at hand
 # make quick      for the desk, not the verdict: what changed and what stands above it is proved, and the programs run; no edits
-# make run        the main program on a sample
+# make run        the main program on a sample; before it is proved, the same sources built without a proof
+# make prove      proves the main program and what it stands on, a line for each crate
 # make library    the static library for C and Rust, target/staticlib/librdoq_c.a
 # make bindings   the static library, the C example and the tests of the Rust crate
 # make fuzz CALLS=10000000 SEED=1
@@ -30,7 +31,7 @@ PASSES ?= 31
 JIXEL_SRC ?= $(abspath ../shared/docs/src)
 export JIXEL_SRC
 
-.PHONY: test quick run library bindings fuzz compare bench
+.PHONY: test quick run prove library bindings fuzz compare bench
 
 # rt's closing line, 'N passed, 0 failed', is kept back and printed last.
 test:
@@ -50,13 +51,12 @@ quick:
 	rt fmt --check
 	@rt check
 
-SAMPLE := examples/blocks.bin
-
 run:
 	@mkdir -p target
-	@rt check level_search > target/run.log 2>&1 || { cat target/run.log >&2; exit 1; }
-	@target/bin/level_search < $(SAMPLE) > target/run.out
-	@tools/explain.sh < target/run.out
+	@tools/run.sh
+
+prove:
+	@tools/prove.sh
 
 CC_STRICT := gcc -std=c99 -Wall -Wextra -Werror -Iinclude
 STATICLIB := target/staticlib/librdoq_c.a
@@ -92,6 +92,7 @@ compare: library
 	@mkdir -p target
 	@rt check level_search > target/compare.log 2>&1 || { cat target/compare.log >&2; exit 1; }
 	@cargo build --quiet --release --offline --manifest-path compare/Cargo.toml --bin compare --bin leaves
+	@mkdir -p target/sample; compare/target/release/compare --sample target/sample; diff -r target/sample examples -x context-sheet.txt || { echo 'examples/blocks.bin and blocks.txt are not what compare --sample writes' >&2; exit 1; }
 	@compare/target/release/leaves
 	@compare/target/release/compare $(N) --seed $(SEED) --port target/bin/level_search $(if $(CLASSES),--classes $(CLASSES)) $(if $(WITHOUT),--without $(WITHOUT))
 

@@ -1,6 +1,6 @@
 //! Whole block files: those that end in a record that can't be read, and the fixed list of answers.
 
-use crate::data::{Block, Book, Search, SEARCHES};
+use crate::data::{Block, Book, Reply, Search, SEARCHES};
 use crate::entropy::prefix_code::PrefixCode;
 use crate::judge::{due, Original, Source};
 use crate::plain::{Problem, Rule, RULES};
@@ -249,18 +249,67 @@ pub fn write_list(folder: &str, seed: u64) {
         block.write(&mut file);
         text += &lines(&mut original, number, &book, &block);
     }
-    let mut number = list.len();
-    for (book, blocks) in examples() {
-        book.write(&mut file);
-        original.take(&book);
-        for block in blocks {
-            block.write(&mut file);
-            text += &lines(&mut original, number, &book, &block);
-            number += 1;
-        }
-    }
+    let number = list.len() + append(examples(), list.len(), &mut file, &mut text);
     let path = |name: &str| format!("{folder}/{name}");
     std::fs::write(path("stdin"), file).expect("stdin is written");
     std::fs::write(path("stdout"), text).expect("stdout is written");
     println!("{number} blocks with the Rust's answers in {folder}; each rule decides one of them");
+}
+
+/// Appends blocks under their books to a file, with the lines that are due for them, numbered from `first` on; how many they are.
+fn append(groups: Vec<(Book, Vec<Block>)>, first: usize, file: &mut Vec<u8>, text: &mut String) -> usize {
+    let mut original = Original::new();
+    let mut number = first;
+    for (book, blocks) in groups {
+        book.write(file);
+        original.take(&book);
+        for block in blocks {
+            block.write(file);
+            *text += &lines(&mut original, number, &book, &block);
+            number += 1;
+        }
+    }
+    number - first
+}
+
+/// The first block of a draw, twelve coefficients in eighths, for which the three searches write three different blocks, the trellis the cheapest of its and the beam's.
+fn parting(book: &Book) -> Block {
+    let mut random = Random::of(&[1]);
+    let mut original = Original::new();
+    original.take(book);
+    loop {
+        let mut block = blocks::empty_block();
+        for at in 1..13 {
+            let eighths = random.below(49) as f32 - 24.0;
+            block.source[at] = eighths / 8.0;
+            block.levels[at] = block.source[at].round() as i32;
+        }
+        let [greedy, beam, trellis] = SEARCHES.map(|search| due(&mut original, search, book, &block).outcome);
+        let cheaper = match (trellis.reply, beam.reply) {
+            (Reply::Cost { bits: found, .. }, Reply::Cost { bits: other, .. }) => f32::from_bits(found) < f32::from_bits(other),
+            _ => false,
+        };
+        if cheaper && greedy.levels != beam.levels && greedy.levels != trellis.levels {
+            return block;
+        }
+    }
+}
+
+/// Writes the sample of `make run`, blocks.bin and the Rust's answers in blocks.txt: a block for which the searches part, the same with a failed strip, the block
+/// again, an all-zero block, and one that no symbol can write.
+pub fn write_sample(folder: &str) {
+    let book = one_cluster(|symbol| 0.5 + 0.75 * symbol as f32);
+    let good = parting(&book);
+    let mut failed = good.clone();
+    failed.source[4..8].fill(f32::NAN);
+    let zeros = blocks::empty_block();
+    let groups = vec![
+        (book, vec![good.clone(), failed, good, zeros.clone()]),
+        (one_cluster(|_| f32::INFINITY), vec![zeros]),
+    ];
+    let (mut file, mut text) = (Vec::new(), String::new());
+    append(groups, 0, &mut file, &mut text);
+    let path = |name: &str| format!("{folder}/{name}");
+    std::fs::write(path("blocks.bin"), file).expect("the sample is written");
+    std::fs::write(path("blocks.txt"), text).expect("its answers are written");
 }

@@ -41,10 +41,11 @@ pub struct Options {
     pub power: bool,
     pub save: Option<String>,
     pub list: Option<String>,
+    pub sample: Option<String>,
     pub files: u64,
 }
 
-const USAGE: &str = "compare [BLOCKS] [--seed S] [--classes C,C,..] [--only INDEX] [--port PROGRAM] [--without SEARCH] [--threads T] [--files F] [--power] [--save FILE] [--list FOLDER]";
+const USAGE: &str = "compare [BLOCKS] [--seed S] [--classes C,C,..] [--only INDEX] [--port PROGRAM] [--without SEARCH] [--threads T] [--files F] [--power] [--save FILE] [--list FOLDER] [--sample FOLDER]";
 
 fn options() -> Result<Options, String> {
     let mut options = Options {
@@ -58,6 +59,7 @@ fn options() -> Result<Options, String> {
         power: false,
         save: None,
         list: None,
+        sample: None,
         files: 200,
     };
     let mut words = std::env::args().skip(1);
@@ -70,6 +72,7 @@ fn options() -> Result<Options, String> {
             "--threads" => options.threads = number(value()?)? as usize,
             "--port" => options.port = Some(value()?),
             "--list" => options.list = Some(value()?),
+            "--sample" => options.sample = Some(value()?),
             "--files" => options.files = number(value()?)?,
             "--save" => options.save = Some(value()?),
             "--power" => options.power = true,
@@ -266,6 +269,10 @@ fn main() -> std::process::ExitCode {
     exact::self_check();
     if let Some(folder) = &options.list {
         files::write_list(folder, options.seed);
+        return 0.into();
+    }
+    if let Some(folder) = &options.sample {
+        files::write_sample(folder);
         return 0.into();
     }
     if options.power {
