@@ -1,3 +1,4 @@
 pub mod Error
 pub mod Choices
 pub mod Block
+pub mod Worked
