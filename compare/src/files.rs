@@ -1,4 +1,4 @@
-//! Whole block files: those that end in a record that can't be read, and the fixed list of answers.
+//! Whole block files: those that end in a record that can't be read, the fixed list of answers, and the sample of `make run`.
 
 use crate::data::{Block, Book, Reply, Search, SEARCHES};
 use crate::entropy::prefix_code::PrefixCode;
