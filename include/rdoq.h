@@ -1,85 +1,23 @@
 /*
- * The level search of a JPEG XL encoder, for one block.
+ * The level search of a JPEG XL encoder, for one block and for a whole group of blocks.
  *
- * The functions are those of crates/c_leaves, c_book, c_search, c_tally and c_store, whose contracts are proved. Build the library with
- *
- *     make library               writes target/staticlib/librdoq_c.a
- *
- * and link that archive. It needs memset and memcpy, and nothing else. x86-64 Linux only.
+ * The functions are those of crates/c_leaves, c_book, c_search, c_small, c_group, c_tokens, c_tally, c_store and c_version, whose
+ * contracts are proved. Link librdoq_c.a or librdoq_c.so: `make library` writes the first, `make dist` and `make install` have both.
+ * They need memset and memcpy, and nothing else. x86-64 Linux only. rdoq_easy.h has the same calls over structs, and refusals in words.
  *
  * Every call
- *   - returns a code: 0 where it answers, else the number of the refusal (below);
- *   - writes what it answers behind the pointers that come last, and only where the code is 0;
+ *   - returns a code: 0 where it answers, else the number of the refusal (rdoq_refusal, below). rdoq_version alone returns what
+ *     it has to say;
+ *   - writes what it answers behind the pointers that come last, and only where the code is 0; rdoq_group alone writes its number
+ *     with a refusal too;
  *   - reads and writes nothing but what is lent to it, allocates nothing and keeps nothing. So any number of calls may run at
  *     once, on any threads, as long as none of them writes to memory that another is lent.
  *
  * An array is a pointer and its length in elements. The pointer is aligned for its type and points to at least that many elements.
- * The arrays and variables that a call writes to overlap nothing else that it is lent. A bool is 0 or 1. A pointer whose length is 0 may be
- * NULL. The thread has RDOQ_STACK_BYTES of stack left. Floating point is as a C program starts: rounding to nearest, subnormal numbers
- * kept. (-ffast-math may flush them to zero at start-up, and with it a rightly filled book may get 6.) These are the only duties of a
- * caller: wrong lengths and wrong contents are refused by number.
- *
- * Refusals. The first check that fails is answered. A search makes its checks in this order: `search` names one (17), 1 to 9, 18,
- * 10 to 14; then the trellis may find 15, the beam 16. The builder of a prefix code makes 1 and 2, that of an ANS code 1, 2 and 19,
- * rdoq_fill_ready 1 to 5. The leaf and price calls make 17 alone. A tally's calls make 1 to 4, 17, then 27 or 28. The calls on a store
- * make 37, 33, then 34 (put) or 35 (drop, read), then 36 (read).
- *
- *    1  the map is not 14,850 bytes, or the clusters are not 1 to 256
- *         Lend a byte for each context; name 1 to 256 clusters.
- *    2  configs are not 3 bytes a cluster, symbols not 128 floats, ready not 256; of a prefix code: depths not 128 bytes, singles not 1;
- *       of an ANS code: frequencies not 128
- *         Lend the exact lengths; surplus is refused too.
- *    3  an entry of the map is not below the number of clusters
- *         Mend the map, or name more clusters.
- *    4  a configuration (s, m, l) has s > 6 or m + l > s
- *         Use a smaller one: 4,2,0 and 5,2,2 and 6,3,0 pass.
- *    5  a symbol price is NaN, below 0, or finite and above 1,024
- *         Use +infinity for a symbol that can't be written.
- *    6  a ready price is not symbol price plus extra bits
- *         Call rdoq_fill_ready after each change of a configuration or a symbol price.
- *    7  a side of the block, in 8-sample units, is not 1, 2, 4, 8, 16 or 32
- *         Pass the sides in units of 8 samples.
- *    8  levels, scan, source or inverse weights do not hold 64 numbers for each covered block (cx * cy of them)
- *         Lend the exact lengths.
- *    9  the strategy code is above 26, or the channel above 2
- *         Channels are X = 0, Y = 1, B = 2.
- *   10  lambda is outside 2^-20 to 2^20, penalty or channel weight outside 2^-10 to 2^10, distance outside 0 to 25, the bias `one`
- *       outside 0 to 2, one of these is NaN, or the bias numerator is not the float 0.145
- *         Hold the settings within these bounds; pass RDOQ_BIAS_NUMERATOR.
- *   11  the scan does not hold each of 0 to 64 * cx * cy - 1 once
- *         Pass the scan order of this strategy.
- *   12  a level at scan position cx * cy or later lies outside -32,767 to 32,767
- *         Quantise more coarsely.
- *   13  an ideal (source * inverse weight * scale) in the window is NaN or outside -32,767 to 32,767
- *         Look for a failed transform, or for a wrong scale; the block keeps every level.
- *   14  the room is too small for the search (see rdoq_block)
- *         Lend more.
- *   15  the trellis: every choice in its band needs a token of infinite price, or one for which there is no word for want of symbols
- *   16  the beam: every path that it kept ended at an infinite cost
- *         Give finite prices to the symbols that the block needs, use a configuration with symbols for its values (see
- *         rdoq_token_bits), or keep the block as it is: no level was changed.
- *   17  an argument lies outside the call's domain, or `search` names none
- *         See the comment over the call.
- *   18  the product of the sides is not what ISO/IEC 18181-1 gives for the strategy (codes 0-3, 12-17: 1; 6, 7: 2; 4, 8, 9: 4;
- *       10, 11: 8; 5: 16; 19, 20: 32; 18: 64; 22, 23: 128; 21: 256; 25, 26: 512; 24: 1,024)
- *         Pass the strategy and the sides of one block. Which side is the longer does not matter.
- *   19  a frequency of an ANS code is above 4,096
- *         Scale the frequencies so that 4,096 is the whole.
- *   27  a count of a tally would pass 2^32 - 1, or its total of extra bits 2^64 - 1
- *         Begin a new tally.
- *   28  a count of a tally, or its total, would fall below 0
- *         Take out only tokens that were added, under the same map and configurations.
- *   33  of a store: the block number is not below 1,024
- *         Number the blocks of a store from 0.
- *   34  of a store: the live tokens after the call would exceed the room (a run that is replaced is not counted)
- *         Drop runs, or start a store with more room.
- *   35  of a store: no run is held under the block number
- *         Put one first.
- *   36  the reader's buffer is shorter than the run
- *         Lend more; record has the length of each run.
- *   37  of a store: record is not 3,073 numbers, or says more than 1,024 runs, or a run that starts before the one before it ends or
- *       ends past room, or a number that is not below 1,024 or stands there twice
- *         Hand room and record on as the last call left them; all 0 is an empty store.
+ * A pointer whose length is 0 may be NULL. The arrays and variables that a call writes to overlap nothing else that it is lent. A
+ * bool is 0 or 1. The thread has RDOQ_STACK_BYTES of stack left. Floating point is as a C program starts: rounding to nearest,
+ * subnormal numbers kept. (-ffast-math may flush them to zero at start-up, and with it a rightly filled book may get 6.) These are
+ * the only duties of a caller: wrong lengths and wrong contents are refused by number.
  */
 #ifndef RDOQ_H
 #define RDOQ_H
@@ -95,17 +33,188 @@ extern "C" {
 #define RDOQ_GREEDY 0u
 #define RDOQ_BEAM 1u
 #define RDOQ_TRELLIS 2u
+#define RDOQ_UNFACTORED 3u
 
 #define RDOQ_CONTEXTS 14850u      /* bytes of a context map */
 #define RDOQ_SYMBOLS 128u         /* symbol prices of a cluster */
 #define RDOQ_READY 256u           /* ready prices of a cluster */
 #define RDOQ_BEAM_CHOICES 6u      /* choice bytes of a window position, for the beam */
-#define RDOQ_TRELLIS_CHOICES 28u  /* and for the trellis */
-#define RDOQ_ROW 28u              /* floats of a cost row */
+#define RDOQ_HALF_WIDTH 6u        /* the half-width of the trellis's band to begin with */
+#define RDOQ_WIDEST 12u           /* and the largest */
+#define RDOQ_ROW(half_width) (2u * (2u * (half_width) + 2u))   /* floats of a cost row, for the trellis */
+#define RDOQ_TRELLIS_CHOICES(half_width) (2u * (half_width) + 2u)  /* choice bytes of a window position, for the trellis */
+#define RDOQ_SMALL_WINDOW 32u     /* window positions of rdoq_small_block */
+#define RDOQ_SMALL_BEAM_CHOICES (RDOQ_BEAM_CHOICES * RDOQ_SMALL_WINDOW)   /* 192 choice bytes, for its beam */
+#define RDOQ_SMALL_TRELLIS_CHOICES (RDOQ_TRELLIS_CHOICES(RDOQ_HALF_WIDTH) * RDOQ_SMALL_WINDOW)   /* 448, for its trellis */
+#define RDOQ_SMALL_ROW RDOQ_ROW(RDOQ_HALF_WIDTH)   /* 28 floats of a cost row, for its trellis */
 #define RDOQ_BIAS_NUMERATOR 0.145f
+#define RDOQ_GROUP_WORDS 8u       /* words of a listed block: x, y, cx, cy, strategy, channel, quant class, half-width */
+#define RDOQ_GROUP_FLOATS 7u      /* its floats: channel weight, lambda, penalty, distance, one, numerator, scale */
 #define RDOQ_STORE_RUNS 1024u     /* block numbers of a store */
 #define RDOQ_STORE_RECORD 3073u   /* numbers of its record */
 #define RDOQ_STACK_BYTES 20480u   /* no call takes more of its thread's stack */
+
+/*
+ * The version of this header. A program that was compiled with it and linked with the library of another has
+ * rdoq_version() != RDOQ_VERSION_NUMBER.
+ */
+#define RDOQ_VERSION_MAJOR 0
+#define RDOQ_VERSION_MINOR 1
+#define RDOQ_VERSION_PATCH 0
+#define RDOQ_VERSION "0.1.0"
+#define RDOQ_VERSION_NUMBER (1000000u * RDOQ_VERSION_MAJOR + 1000u * RDOQ_VERSION_MINOR + RDOQ_VERSION_PATCH)
+
+/* refusals: header, written by tools/refusals.py from docs/refusals.txt */
+/*
+ * Refusals. The first check that fails is answered; what each call asks, in order:
+ *   rdoq_block                                        from C 17 where no search has the number; then 1 to 9, 18, 10,
+ *                                                     26, 11 to 14; then 15 (trellis, unfactored too) or 16 (beam).
+ *                                                     Greedy asks for no room
+ *   rdoq_small_block                                  32; then as rdoq_block, without 26
+ *   rdoq_group                                        from C 17 where no search has the number; 1 to 6; 17 where the
+ *                                                     list is no whole blocks; then over the whole list each 7, 9 (the
+ *                                                     channel), 29, 30, 31; then block by block 8, 9 (the strategy) and
+ *                                                     on as rdoq_block
+ *   rdoq_check_book                                   1 to 6
+ *   rdoq_fill_ready                                   1 to 5
+ *   rdoq_prefix_symbol_bits                           1 (the clusters alone: there is no map), 2
+ *   rdoq_ans_symbol_bits                              1 (the clusters alone), 2, 19
+ *   rdoq_write_tokens                                 1 to 4, 7, 8 (levels and scan alone), 9, 18, 11, then 24, 20, 23
+ *   rdoq_read_tokens                                  the same up to 11; 22 where the lists differ in length; on the
+ *                                                     count 22, 20, 21; while levels are owed 25, 22, 20, 24; 22 where
+ *                                                     tokens are left
+ *   rdoq_tally_add, rdoq_tally_remove                 1 to 4, 17, then 27 (add) or 28 (remove)
+ *   rdoq_store_put, rdoq_store_drop, rdoq_store_read  37, 33, then 34 (put) or 35 (drop, read), then 36 (read)
+ *   leaf and price calls                              17 alone
+ */
+typedef enum rdoq_refusal {
+    RDOQ_ANSWERED = 0,
+    /* The map is not 14,850 bytes, or the clusters are not 1 to 256.
+       Lend a byte for each context; name 1 to 256 clusters. */
+    RDOQ_REFUSAL_MAP_LENGTH = 1,
+    /* Configurations are not 3 bytes a cluster, symbol prices not 128, ready prices not 256; of a prefix code: depths
+       not 128, flags not 1; of an ANS code: frequencies not 128; of a tally: counts not 128.
+       Lend the exact lengths; surplus is refused too. */
+    RDOQ_REFUSAL_BOOK_LENGTH = 2,
+    /* An entry of the map is not below the number of clusters.
+       Mend the map, or name more clusters. */
+    RDOQ_REFUSAL_MAP_ENTRY = 3,
+    /* A configuration (s, m, l) has s > 6 or m + l > s.
+       Use a smaller one; 4,2,0 and 5,2,2 and 6,3,0 pass. */
+    RDOQ_REFUSAL_CONFIGURATION = 4,
+    /* A symbol price is NaN, below 0, or finite and above 1,024.
+       Use +infinity for a symbol that can't be written; -0.0 passes. */
+    RDOQ_REFUSAL_SYMBOL_PRICE = 5,
+    /* A ready price differs in its bits from symbol price plus extra bits.
+       Call rdoq_fill_ready after each change of a configuration or a symbol price; see to the floating-point mode. */
+    RDOQ_REFUSAL_READY_PRICE = 6,
+    /* A side of the block is not 1, 2, 4, 8, 16 or 32.
+       Pass the sides in units of 8 samples. */
+    RDOQ_REFUSAL_BLOCK_SIDE = 7,
+    /* Levels, scan, source or inverse weights do not hold 64 numbers for each covered block; in a group's list: too few
+       are left for the block.
+       Lend the exact lengths. */
+    RDOQ_REFUSAL_BLOCK_LENGTH = 8,
+    /* The strategy code is above 26, or the channel above 2.
+       Pass the code of ISO/IEC 18181-1; channels are X = 0, Y = 1, B = 2. */
+    RDOQ_REFUSAL_STRATEGY = 9,
+    /* Lambda lies outside 2^-20 to 2^20, penalty or channel weight outside 2^-10 to 2^10, distance outside 0 to 25, the
+       bias `one` outside 0 to 2, one of these is NaN, or the bias numerator is not the f32 0.145.
+       Hold the settings within these bounds; explicit biases with another numerator are not covered. */
+    RDOQ_REFUSAL_SETTINGS = 10,
+    /* The scan does not hold each index of the block once.
+       Pass the scan order of this strategy. */
+    RDOQ_REFUSAL_SCAN = 11,
+    /* A level at scan position c or later, c being the covered blocks, lies outside -32,767 to 32,767.
+       Quantise more coarsely. */
+    RDOQ_REFUSAL_LEVEL = 12,
+    /* An ideal (source * inverse weight * scale) in the window is NaN or outside -32,767 to 32,767.
+       Look for a failed transform or a wrong scale; keep the block as it is, or mend its coefficients. */
+    RDOQ_REFUSAL_IDEAL = 13,
+    /* The room is too small for the search.
+       Lend more (choice bytes by the length of the window, for the trellis by the half-width too, and two rows);
+       surplus is fine. */
+    RDOQ_REFUSAL_ROOM = 14,
+    /* Every choice in the trellis's band needs a token of infinite price, or one for which there is no word for want of
+       symbols.
+       Give finite prices to the symbols that the block needs, use a configuration with symbols for its values and its
+       count, or keep the block as it is. */
+    RDOQ_REFUSAL_BAND_INFINITE = 15,
+    /* Every path that the beam kept ended at an infinite cost.
+       Give finite prices to the symbols that the block needs, or try the trellis, which may still find a choice. */
+    RDOQ_REFUSAL_PATHS_INFINITE = 16,
+    /* An argument lies outside the call's domain, no search has the number, or a group's list is not eight words and
+       seven floats a block.
+       See what is said over the call; of a price call also a length, or an entry that it reads. */
+    RDOQ_REFUSAL_DOMAIN = 17,
+    /* The product of the sides is not what ISO/IEC 18181-1 gives for the strategy code (1 for 0 to 3 and 12 to 17; 2
+       for 6, 7; 4 for 4, 8, 9; 8 for 10, 11; 16 for 5; 32 for 19, 20; 64 for 18; 128 for 22, 23; 256 for 21; 512 for
+       25, 26; 1,024 for 24).
+       Pass the strategy and the sides of one block; which side is the longer does not matter. */
+    RDOQ_REFUSAL_SIDES = 18,
+    /* A frequency of an ANS code is above 4,096.
+       Scale the frequencies so that 4,096 is the whole. */
+    RDOQ_REFUSAL_FREQUENCY = 19,
+    /* A token's symbol is above 127, or in reading no value up to 131,071 splits into the symbol and the extra bits.
+       Use a configuration with symbols for the block's values. */
+    RDOQ_REFUSAL_TOKEN_SPLIT = 20,
+    /* The count of nonzero levels that is read is above 63 for each covered block.
+       Look for damaged tokens, or for those of another block. */
+    RDOQ_REFUSAL_TOKEN_COUNT = 21,
+    /* The lists of symbols and extra bits differ in length, end early, or have tokens left over.
+       Lend the tokens of exactly one block. */
+    RDOQ_REFUSAL_TOKEN_LISTS = 22,
+    /* An output is shorter than the block's tokens.
+       Lend 63 for each covered block and one. */
+    RDOQ_REFUSAL_OUTPUT_SHORT = 23,
+    /* A level at scan position c or later lies outside -32,768 to 32,768.
+       Quantise more coarsely; in reading, look for damaged tokens. */
+    RDOQ_REFUSAL_TOKEN_LEVEL = 24,
+    /* More nonzero levels are owed than positions are left.
+       Look for damaged tokens, or for those of another block. */
+    RDOQ_REFUSAL_LEVELS_OWED = 25,
+    /* The half-width of the band is not 1 to 12.
+       Use 6 where nothing else is known. */
+    RDOQ_REFUSAL_HALF_WIDTH = 26,
+    /* A count of a tally would pass 2^32 - 1, or its total of extra bits 2^64 - 1.
+       Begin a new tally. */
+    RDOQ_REFUSAL_TALLY_FULL = 27,
+    /* A count of a tally, or its total of extra bits, would fall below 0.
+       Take out only tokens that were added, under the same map and configurations. */
+    RDOQ_REFUSAL_TALLY_EMPTY = 28,
+    /* A listed block leaves the group of 32 by 32 cells.
+       List blocks that lie in the group. */
+    RDOQ_REFUSAL_OUTSIDE_GROUP = 29,
+    /* Two listed blocks of a channel share a cell.
+       List each cell of a channel once. */
+    RDOQ_REFUSAL_OVERLAP = 30,
+    /* A listed block comes before the cell left of its top left cell, or the one above, in its channel.
+       List the blocks of a channel from the top left on. */
+    RDOQ_REFUSAL_NEIGHBOUR_MISSING = 31,
+    /* More than two covered blocks are asked of the small product.
+       Call rdoq_block. */
+    RDOQ_REFUSAL_NOT_SMALL = 32,
+    /* The block number of a store is not below 1,024.
+       Number the blocks of a store from 0. */
+    RDOQ_REFUSAL_BLOCK_NUMBER = 33,
+    /* The live tokens of a store would exceed its room; a run that is replaced is not counted.
+       Drop runs, or start a store with more room. */
+    RDOQ_REFUSAL_STORE_FULL = 34,
+    /* A store holds no run under the block number.
+       Put one first. */
+    RDOQ_REFUSAL_NOT_HELD = 35,
+    /* The reader's buffer is shorter than the run.
+       Lend more; the record has the length of each run. */
+    RDOQ_REFUSAL_BUFFER_SHORT = 36,
+    /* The record of a store is not 3,073 numbers, or says more than 1,024 runs, a run that starts before the one before
+       it ends or ends past the room, or a number that is not below 1,024 or stands there twice.
+       Hand room and record on as the last call left them; all 0 is an empty store. */
+    RDOQ_REFUSAL_STORE_RECORD = 37
+} rdoq_refusal;
+/* refusals: end */
+
+/* The version of the library that was linked, made as RDOQ_VERSION_NUMBER is. It never refuses. */
+uint32_t rdoq_version(void);
 
 /*
  * A price book is lent in five parts that the caller keeps:
@@ -158,13 +267,19 @@ uint32_t rdoq_token_bits_pair(uint32_t clusters, const uint8_t *map, size_t map_
 /*
  * Re-picks the levels of a block, in place.
  *
- *   search          RDOQ_GREEDY, RDOQ_BEAM or RDOQ_TRELLIS; any other number gets 17 and nothing changes
+ *   search          RDOQ_GREEDY, RDOQ_BEAM, RDOQ_TRELLIS or RDOQ_UNFACTORED; any other number gets 17 and nothing changes. The last
+ *                   is the trellis by another walk, a check on the first: on every input the same answer, refusal and
+ *                   room (proved), more slowly. What is said of the trellis below holds of both
  *   clusters..ready the price book
  *   cx, cy          the block's sides in 8-sample units; c = cx * cy is the number of covered blocks
  *   strategy, channel, qf_hi, predicted
  *                   strategy code 0 to 26, channel (X = 0, Y = 1, B = 2), quant class, predicted count of nonzero levels
  *   channel_weight, lambda, penalty, distance
- *                   the settings; penalty multiplies lambda where a zero becomes nonzero
+ *                   what distortion and bits are weighed by; penalty multiplies lambda where a zero becomes nonzero
+ *   half_width      1 to 12, the half-width w of the trellis's band; RDOQ_HALF_WIDTH where nothing else is known. After each
+ *                   position the count of nonzero levels may differ by w from the input's. On the same block a wider band never
+ *                   costs more, and answers wherever a narrower one did (proved). Greedy and beam have no band: they answer the
+ *                   same for every w in range. Out of range it gets 26 from every search
  *   one, numerator  the channel's bias: the size of a level of 1, and RDOQ_BIAS_NUMERATOR
  *   scale           the ideal at a position is (source * inv_qm) * scale
  *   scan, source, inv_qm, levels
@@ -174,12 +289,14 @@ uint32_t rdoq_token_bits_pair(uint32_t clusters, const uint8_t *map, size_t map_
  *                   1,008 for 16, 1,024 above):
  *                     greedy   none
  *                     beam     6 * n choice bytes
- *                     trellis  28 * n choice bytes and two rows of 28 floats
- *                   More is welcome: 28,672 bytes and two rows serve every block. What it holds before a call does not matter.
+ *                     trellis  RDOQ_TRELLIS_CHOICES(w) * n choice bytes, two choices in each, and two rows of RDOQ_ROW(w) floats: 14 bytes
+ *                              and 28 floats where w is 6
+ *                   More is welcome: RDOQ_TRELLIS_CHOICES(RDOQ_WIDEST) * 1024 bytes, 26,624, and two rows of RDOQ_ROW(RDOQ_WIDEST) floats
+ *                   serve every block and width. What it holds before a call does not matter.
  *   cost, count     written where the code is 0: the count of nonzero levels from scan position c on, and, by beam and trellis,
  *                   the cost of the levels that were written. Greedy leaves cost as it was.
  *
- * After refusals 1 to 14, 17 and 18 nothing that was lent has changed. (The proofs know one NaN: that a NaN keeps its bit pattern
+ * After every refusal but 15 and 16 nothing that was lent has changed. (The proofs know one NaN: that a NaN keeps its bit pattern
  * they do not say; the code stores nothing there.) After 15, after 16 and after an answer of the trellis or the beam every choice
  * byte is 255 and every float of the rows +infinity. Greedy touches no room. The levels at scan positions below c and past the window
  * never change, and a refused block keeps every level.
@@ -187,10 +304,91 @@ uint32_t rdoq_token_bits_pair(uint32_t clusters, const uint8_t *map, size_t map_
 uint32_t rdoq_block(uint32_t search, uint32_t clusters, const uint8_t *map, size_t map_len, const uint8_t *configs,
                     size_t configs_len, const float *symbols, size_t symbols_len, const float *ready, size_t ready_len, uint32_t cx,
                     uint32_t cy, uint8_t strategy, uint8_t channel, bool qf_hi, uint8_t predicted, float channel_weight,
-                    float lambda, float penalty, float distance, float one, float numerator, float scale, const uint32_t *scan,
-                    size_t scan_len, const float *source, size_t source_len, const float *inv_qm, size_t inv_qm_len,
+                    float lambda, float penalty, float distance, uint32_t half_width, float one, float numerator, float scale,
+                    const uint32_t *scan, size_t scan_len, const float *source, size_t source_len, const float *inv_qm,
+                    size_t inv_qm_len, int32_t *levels, size_t levels_len, uint8_t *choices, size_t choices_len, float *row_a,
+                    size_t row_a_len, float *row_b, size_t row_b_len, float *cost, uint32_t *count);
+
+/*
+ * Re-picks the levels of a group's blocks, in place and in the order of a list. This is the call that an encoder should use: the book
+ * is checked once for the whole list, and the count of nonzero levels that a block is coded by is predicted as ISO/IEC 18181-1 has it,
+ * from the blocks settled above and to the left in its channel. (A settled block writes its count over its covered blocks, rounded up,
+ * into its cells; these are the call's own.)
+ *
+ *   search          as for rdoq_block
+ *   clusters..ready the price book
+ *   blocks          RDOQ_GROUP_WORDS words a block: x and y of its top left cell, its sides cx to the right and cy down, strategy,
+ *                   channel, quant class (0 is low, all else high), half-width. A group is 32 by 32 cells of 8 by 8 samples
+ *   settings        RDOQ_GROUP_FLOATS floats a block: channel_weight, lambda, penalty, distance, one, numerator, scale
+ *   scans, sources, inv_qms, levels
+ *                   64 * cx * cy numbers a block, block after block; what is left over is neither read nor refused
+ *   choices, row_a, row_b
+ *                   working room, as the largest need of a block has it
+ *   settled         the number of blocks settled. It is written by every call, with a refusal too
+ *
+ * A block may come once the cells left of and above its top left cell were listed in its channel, where the group has such cells: from
+ * the top left on, row after row, will do. The channels may come one after the other or in turns: blocks of one channel are settled
+ * alike whatever blocks of others stand in the list, as long as both lists settle them (proved). What is promised of an answer of
+ * rdoq_block is promised of each settled block with its predicted count (proved).
+ *
+ * Returns 0 where the list was settled to its end. 17, and what is refused of the book or of the list (7, a channel's 9, 29, 30, 31, each
+ * over the whole list before the next) come before any search, with 0 settled and nothing changed. A block that is refused, with 8 where
+ * fewer numbers are left than it has, stops the list: the blocks before it stay settled, the others keep every level, and the room is
+ * as the last settled block left it, or cleared by 15 and 16. A list may write a level of 32,768 where 32,767 is restored to more; a
+ * second run over these levels stops there with 12.
+ */
+uint32_t rdoq_group(uint32_t search, uint32_t clusters, const uint8_t *map, size_t map_len, const uint8_t *configs,
+                    size_t configs_len, const float *symbols, size_t symbols_len, const float *ready, size_t ready_len,
+                    const uint32_t *blocks, size_t blocks_len, const float *settings, size_t settings_len, const uint32_t *scans,
+                    size_t scans_len, const float *sources, size_t sources_len, const float *inv_qms, size_t inv_qms_len,
                     int32_t *levels, size_t levels_len, uint8_t *choices, size_t choices_len, float *row_a, size_t row_a_len,
-                    float *row_b, size_t row_b_len, float *cost, uint32_t *count);
+                    float *row_b, size_t row_b_len, uint32_t *settled);
+
+/*
+ * The small product: rdoq_block for blocks of one or two covered blocks, over a window of 32 positions and so in little room. More
+ * than two, whatever else is wrong, get 32 before everything, before 17 for the number of the search too, and nothing changes. The
+ * product of the sides does not wrap: 3 and 1, 65,536 and 65,536 get 32. The rest is rdoq_block's, with these differences:
+ *
+ *   the window      32 positions from scan position c on; of these 20 may be restored where c is 1, all where it is 2. The levels past
+ *                   it stay, and their ideals are not looked at: a NaN there is no refusal
+ *   half-width      6; it is no argument, and 26 is not given
+ *   working room    greedy   none
+ *                   beam     RDOQ_SMALL_BEAM_CHOICES, 192 choice bytes
+ *                   trellis  RDOQ_SMALL_TRELLIS_CHOICES, 448 choice bytes, and two rows of RDOQ_SMALL_ROW, 28 floats
+ *
+ * What is promised of a trellis's answer there is promised here, of this window: its levels are of least cost in the band (proved).
+ */
+uint32_t rdoq_small_block(uint32_t search, uint32_t clusters, const uint8_t *map, size_t map_len, const uint8_t *configs,
+                          size_t configs_len, const float *symbols, size_t symbols_len, const float *ready, size_t ready_len,
+                          uint32_t cx, uint32_t cy, uint8_t strategy, uint8_t channel, bool qf_hi, uint8_t predicted,
+                          float channel_weight, float lambda, float penalty, float distance, float one, float numerator,
+                          float scale, const uint32_t *scan, size_t scan_len, const float *source, size_t source_len,
+                          const float *inv_qm, size_t inv_qm_len, int32_t *levels, size_t levels_len, uint8_t *choices,
+                          size_t choices_len, float *row_a, size_t row_a_len, float *row_b, size_t row_b_len, float *cost,
+                          uint32_t *count);
+
+/*
+ * Writes the tokens of a block: the count of nonzero levels from scan position c on, then each level from there until nothing
+ * remains. For each token: its context, and its symbol, number of extra bits and extra bits under the configuration of the
+ * context's cluster. No prices are asked for. count is the number of tokens, at most 63 * c + 1, and each output has room for that
+ * many; nothing past the tokens changes. Returns 0, or a refusal (the order stands above) and writes nothing.
+ */
+uint32_t rdoq_write_tokens(uint32_t clusters, const uint8_t *map, size_t map_len, const uint8_t *configs, size_t configs_len,
+                           uint32_t cx, uint32_t cy, uint8_t strategy, uint8_t channel, bool qf_hi, uint8_t predicted,
+                           const uint32_t *scan, size_t scan_len, const int32_t *levels, size_t levels_len, uint32_t *contexts,
+                           size_t contexts_len, uint32_t *symbols, size_t symbols_len, uint32_t *extra_bits, size_t extra_bits_len,
+                           uint32_t *bits, size_t bits_len, uint32_t *count);
+
+/*
+ * Restores the levels from scan position c on from the symbols and extra bits of exactly one block's tokens, 0 past the last token;
+ * the first c stay, and what the others held before does not matter. count is the number of tokens. What rdoq_write_tokens gives is
+ * turned back into those levels, and what this call accepts rdoq_write_tokens gives again, symbol by symbol (proved). Returns 0, or
+ * a refusal and changes no level.
+ */
+uint32_t rdoq_read_tokens(uint32_t clusters, const uint8_t *map, size_t map_len, const uint8_t *configs, size_t configs_len,
+                          uint32_t cx, uint32_t cy, uint8_t strategy, uint8_t channel, bool qf_hi, uint8_t predicted,
+                          const uint32_t *scan, size_t scan_len, const uint32_t *symbols, size_t symbols_len, const uint32_t *bits,
+                          size_t bits_len, int32_t *levels, size_t levels_len, uint32_t *count);
 
 /*
  * A tally: counts, 128 a cluster, and the total of extra bits; all 0 to begin with. Adds the tokens given as contexts and values,

@@ -6,7 +6,7 @@ cd "$(dirname "$0")/.."
 out=target/staticlib
 library=$out/librdoq_c.a
 # A library younger than all it is made of stands as it is.
-if [ -e "$library" ] && [ -z "$(find crates include tools/archive.sh "$(command -v rt)" -newer "$library" -print -quit)" ]; then
+if [ -e "$library" ] && [ -z "$(find crates include/rdoq.h tools/archive.sh "$(command -v rt)" -newer "$library" -print -quit)" ]; then
     exit 0
 fi
 mkdir -p "$out"

@@ -14,8 +14,9 @@ static float ready[RDOQ_READY];
 static uint32_t scan[N];
 static float source[N], inv_qm[N];
 static int32_t levels[N];
-static uint8_t choices[RDOQ_TRELLIS_CHOICES * WINDOW];
-static float row_a[RDOQ_ROW], row_b[RDOQ_ROW];
+static uint8_t choices[RDOQ_TRELLIS_CHOICES(RDOQ_WIDEST) * WINDOW];
+static float row_a[RDOQ_ROW(RDOQ_WIDEST)], row_b[RDOQ_ROW(RDOQ_WIDEST)];
+static uint32_t half_width = RDOQ_HALF_WIDTH;
 static float cost;
 static uint32_t count;
 static int wrong;
@@ -37,8 +38,9 @@ static uint32_t search(uint32_t which, float lambda) {
     cost = -1.0f;
     count = 99;
     return rdoq_block(which, 1, map, sizeof map, configs, sizeof configs, symbols, RDOQ_SYMBOLS, ready, RDOQ_READY, 1, 1, 0, 1,
-                      false, 0, 1.0f, lambda, 1.0f, 1.0f, 0.9f, RDOQ_BIAS_NUMERATOR, 1.0f, scan, N, source, N, inv_qm, N, levels,
-                      N, choices, sizeof choices, row_a, RDOQ_ROW, row_b, RDOQ_ROW, &cost, &count);
+                      false, 0, 1.0f, lambda, 1.0f, 1.0f, half_width, 0.9f, RDOQ_BIAS_NUMERATOR, 1.0f, scan, N, source, N, inv_qm,
+                      N, levels, N, choices, sizeof choices, row_a, RDOQ_ROW(RDOQ_WIDEST), row_b, RDOQ_ROW(RDOQ_WIDEST), &cost,
+                      &count);
 }
 
 /* 1 where all of the room is at its fixed values */
@@ -46,7 +48,7 @@ static int cleared(void) {
     for (unsigned i = 0; i < sizeof choices; i++) {
         if (choices[i] != 255) return 0;
     }
-    for (unsigned i = 0; i < RDOQ_ROW; i++) {
+    for (unsigned i = 0; i < RDOQ_ROW(RDOQ_WIDEST); i++) {
         if (row_a[i] != INFINITY || row_b[i] != INFINITY) return 0;
     }
     return 1;
@@ -66,11 +68,22 @@ int main(void) {
 
     expect("filling the ready prices", fill(1.0f), 0);
     expect("checking the book", rdoq_check_book(1, map, sizeof map, configs, sizeof configs, symbols, RDOQ_SYMBOLS, ready, RDOQ_READY), 0);
-    for (uint32_t which = RDOQ_GREEDY; which <= RDOQ_TRELLIS; which++) {
+    for (uint32_t which = RDOQ_GREEDY; which <= RDOQ_UNFACTORED; which++) {
         printf("search %u\n", which);
-        expect("  code", search(which, 0.5f), 0);
-        expect("  count", count, 0);
-        expect("  cost: lambda, and none by greedy", cost, which == RDOQ_GREEDY ? -1.0 : 0.5);
+        for (int i = 0; i < 3; i++) {
+            static const uint32_t in_range[3] = {1, RDOQ_HALF_WIDTH, RDOQ_WIDEST};
+            half_width = in_range[i];
+            expect("  code", search(which, 0.5f), 0);
+            expect("  count", count, 0);
+            expect("  cost: lambda, and none by greedy", cost, which == RDOQ_GREEDY ? -1.0 : 0.5);
+        }
+        for (int i = 0; i < 4; i++) {
+            static const uint32_t out_of_range[4] = {0, 13, 262, UINT32_MAX};
+            half_width = out_of_range[i];
+            expect("  a half-width out of range", search(which, 0.5f), 26);
+        }
+        expect("  and a lambda of 0, which comes first", search(which, 0.0f), 10);
+        half_width = RDOQ_HALF_WIDTH;
         expect("  nonzero levels", nonzero_levels(), 0);
         expect("  room cleared, not by greedy", cleared(), which != RDOQ_GREEDY);
     }
@@ -79,10 +92,11 @@ int main(void) {
     expect("greedy", search(RDOQ_GREEDY, 0.5f), 0);
     expect("the beam", search(RDOQ_BEAM, 0.5f), 16);
     expect("the trellis", search(RDOQ_TRELLIS, 0.5f), 15);
+    expect("unfactored", search(RDOQ_UNFACTORED, 0.5f), 15);
     expect("cost after a refusal", cost, -1);
     expect("count after a refusal", count, 99);
     memset(choices, 7, sizeof choices);
-    expect("no such search", search(3, 0.5f), 17);
+    expect("no such search", search(4, 0.5f), 17);
     expect("a lambda of 0", search(RDOQ_TRELLIS, 0.0f), 10);
     expect("a byte of the room after both", choices[0], 7);
 

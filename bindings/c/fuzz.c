@@ -51,7 +51,8 @@ static guarded make(size_t most) {
 
 static void *lent(guarded it, size_t bytes) { return once_in(2) ? it.pages : it.pages + it.bytes - bytes; }
 
-enum { CLUSTERS = 9, LARGEST = 64 * 64 };
+/* the most choice bytes and floats of a row that are lent, surplus included */
+enum { CLUSTERS = 9, LARGEST = 64 * 64, CHOICES = RDOQ_TRELLIS_CHOICES(RDOQ_WIDEST) * 1024 + 64, ROW = RDOQ_ROW(RDOQ_WIDEST) + 12 };
 
 static guarded g_map, g_configs, g_symbols, g_ready, g_scan, g_source, g_inverse, g_levels, g_choices, g_row_a, g_row_b;
 
@@ -67,6 +68,7 @@ static struct {
     uint8_t strategy, channel, predicted;
     bool high;
     float weight, lambda, penalty, distance, one, numerator, scale;
+    uint32_t half_width;
 } it;
 
 /* mostly the right length, else near it, or none; never more than is there */
@@ -140,14 +142,18 @@ static void block(void) {
     it.lambda = once_in(60) ? any_float() : between(0.01f, 4.0f);
     it.penalty = once_in(60) ? any_float() : between(0.5f, 2.0f);
     it.distance = once_in(60) ? any_float() : between(0.0f, 4.0f);
+    static const uint32_t out_of_range[] = {0, 13, 262, UINT32_MAX};
+    it.half_width = once_in(60) ? (once_in(2) ? random_word() : out_of_range[below(4)]) : 1 + below(RDOQ_WIDEST);
     it.one = once_in(60) ? any_float() : between(0.8f, 1.0f);
     it.numerator = once_in(60) ? any_float() : RDOQ_BIAS_NUMERATOR;
     it.scale = once_in(60) ? any_float() : between(0.5f, 2.0f);
     size_t window = 1024;
     rdoq_window_len(kinds[kind].cx * (uint32_t)kinds[kind].cy, &window, &(size_t){0});
-    it.choices_len = length((once_in(3) ? RDOQ_BEAM_CHOICES : RDOQ_TRELLIS_CHOICES) * window, RDOQ_TRELLIS_CHOICES * 1024);
-    it.row_a_len = length(RDOQ_ROW, 64);
-    it.row_b_len = length(RDOQ_ROW, 64);
+    /* for a half-width out of range, room for another */
+    uint32_t w = it.half_width - 1 < RDOQ_WIDEST ? it.half_width : RDOQ_HALF_WIDTH;
+    it.choices_len = length((once_in(3) ? RDOQ_BEAM_CHOICES : RDOQ_TRELLIS_CHOICES(w)) * window, CHOICES);
+    it.row_a_len = length(RDOQ_ROW(w), ROW);
+    it.row_b_len = length(RDOQ_ROW(w), ROW);
     /* what stands there is what the call before left, or paint */
     it.choices = lent(g_choices, it.choices_len);
     it.row_a = lent(g_row_a, 4 * it.row_a_len);
@@ -156,8 +162,8 @@ static void block(void) {
 }
 
 static int32_t levels_before[LARGEST];
-static uint8_t choices_before[RDOQ_TRELLIS_CHOICES * 1024];
-static float rows_before[2][64];
+static uint8_t choices_before[CHOICES];
+static float rows_before[2][ROW];
 static const char *broken;
 
 static void hold(int promise, const char *what) {
@@ -186,13 +192,16 @@ static uint32_t search(uint32_t which) {
     memcpy(rows_before[1], it.row_b, 4 * it.row_b_len);
     uint32_t code = rdoq_block(which, it.clusters, it.map, it.map_len, it.configs, it.configs_len, it.symbols, it.symbols_len, it.ready,
                                it.ready_len, it.cx, it.cy, it.strategy, it.channel, it.high, it.predicted, it.weight, it.lambda, it.penalty,
-                               it.distance, it.one, it.numerator, it.scale, it.scan, it.scan_len, it.source, it.source_len, it.inverse,
-                               it.inverse_len, it.levels, it.levels_len, it.choices, it.choices_len, it.row_a, it.row_a_len, it.row_b,
-                               it.row_b_len, &cost, &count);
-    hold(code <= 18, "a code that the header does not name");
-    hold(code != 15 || which == RDOQ_TRELLIS, "15 from another search");
+                               it.distance, it.half_width, it.one, it.numerator, it.scale, it.scan, it.scan_len, it.source,
+                               it.source_len, it.inverse, it.inverse_len, it.levels, it.levels_len, it.choices, it.choices_len, it.row_a,
+                               it.row_a_len, it.row_b, it.row_b_len, &cost, &count);
+    int in_range = it.half_width >= 1 && it.half_width <= RDOQ_WIDEST;
+    hold(code <= 18 || code == 26, "a code that the header does not name");
+    hold(code != 26 || !in_range, "26 for a half-width in range");
+    hold(in_range || (code && (code < 11 || code > 16)), "a half-width out of range that passed");
+    hold(code != 15 || which == RDOQ_TRELLIS || which == RDOQ_UNFACTORED, "15 from another search");
     hold(code != 16 || which == RDOQ_BEAM, "16 from another search");
-    hold((code == 17) == (which > 2), "17 for a search, or none where there is none");
+    hold((code == 17) == (which > RDOQ_UNFACTORED), "17 for a search, or none where there is none");
     if (code) {
         hold(!memcmp(levels_before, it.levels, 4 * it.levels_len), "a refused block that keeps not every level");
         hold(cost == -1.0f && count == 12345, "a refusal that writes cost or count");
@@ -214,7 +223,7 @@ static uint32_t search(uint32_t which) {
 
 int main(int argc, char **argv) {
     unsigned long calls = argc > 1 ? strtoul(argv[1], NULL, 10) : 20000, seed = argc > 2 ? strtoul(argv[2], NULL, 10) : 1;
-    unsigned long codes[19] = {0};
+    unsigned long codes[27] = {0};
     state = 0x9e3779b97f4a7c15u ^ (seed * 0xff51afd7ed558ccdu);
     g_map = make(RDOQ_CONTEXTS);
     g_configs = make(3 * CLUSTERS);
@@ -224,13 +233,13 @@ int main(int argc, char **argv) {
     g_source = make(4 * LARGEST);
     g_inverse = make(4 * LARGEST);
     g_levels = make(4 * LARGEST);
-    g_choices = make(RDOQ_TRELLIS_CHOICES * 1024);
-    g_row_a = make(4 * 64);
-    g_row_b = make(4 * 64);
+    g_choices = make(CHOICES);
+    g_row_a = make(4 * ROW);
+    g_row_b = make(4 * ROW);
     for (unsigned long i = 0; i < calls; i++) {
         if (i % 16 == 0) book();
         if (i % 4 == 0) block();
-        uint32_t code = search(i % 4 == 3 && once_in(8) ? 3 + below(1000) : (uint32_t)(i % 3));
+        uint32_t code = search(i % 4 == 3 && once_in(8) ? 4 + below(1000) : (uint32_t)(i % 4));
         if (broken) {
             printf("fuzz: call %lu of seed %lu: %s (code %u)\n", i, seed, broken, (unsigned)code);
             return 1;
@@ -238,7 +247,7 @@ int main(int argc, char **argv) {
         codes[code]++;
     }
     printf("fuzz: %lu calls of seed %lu, no fault; answered %lu; refused", calls, seed, codes[0]);
-    for (int i = 1; i < 19; i++) if (codes[i]) printf(" %d: %lu", i, codes[i]);
+    for (int i = 1; i < 27; i++) if (codes[i]) printf(" %d: %lu", i, codes[i]);
     puts("");
     return 0;
 }

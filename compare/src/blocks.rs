@@ -1,6 +1,6 @@
 //! Blocks by seed, all of them in the domain that checks 7 to 13 leave.
 
-use crate::data::{strategies, window, Block};
+use crate::data::{row_floats, strategies, trellis_bytes, window, Block, HALF_WIDTH, WIDEST};
 use crate::random::Random;
 use crate::scans::{natural, shuffled};
 
@@ -43,8 +43,13 @@ const PROFILES: [Profile; 10] = [
 
 const SIDES: [u32; 6] = [1, 2, 4, 8, 16, 32];
 
+/// Every half-width, its first value as often as all others.
+pub fn random_width(random: &mut Random) -> u32 {
+    if random.once_in(2) { HALF_WIDTH } else { 1 + random.below(WIDEST as usize) as u32 }
+}
+
 /// A block of c covered blocks.
-pub fn random_block(random: &mut Random, c: usize) -> Block {
+pub fn random_block(random: &mut Random, c: usize, half_width: u32) -> Block {
     let shapes: Vec<(u32, u32)> = SIDES
         .iter()
         .flat_map(|&x| SIDES.map(|y| (x, y)))
@@ -69,11 +74,12 @@ pub fn random_block(random: &mut Random, c: usize) -> Block {
         lambda: 1.0,
         penalty: 1.0,
         distance: 1.0,
+        half_width,
         one: 1.0,
         numerator: 0.145,
         scale: 1.0,
-        choices: (28 * w) as u32,
-        rows: [28; 2],
+        choices: trellis_bytes(half_width) * w as u32,
+        rows: [row_floats(half_width); 2],
         levels: vec![0; n],
         scan,
         source: vec![0.0; n],
@@ -98,11 +104,12 @@ pub fn empty_block() -> Block {
         lambda: 1.0,
         penalty: 1.0,
         distance: 1.0,
+        half_width: HALF_WIDTH,
         one: 1.0,
         numerator: 0.145,
         scale: 1.0,
-        choices: 28 * 63,
-        rows: [28; 2],
+        choices: trellis_bytes(HALF_WIDTH) * 63,
+        rows: [row_floats(HALF_WIDTH); 2],
         levels: vec![0; 64],
         scan: (0..64).collect(),
         source: vec![0.0; 64],
@@ -154,12 +161,13 @@ fn settings(random: &mut Random, block: &mut Block) {
 
 /// Mostly rooms of the exact lengths; now and then more, or too little for the trellis or the beam.
 fn rooms(random: &mut Random, block: &mut Block, w: usize) {
-    let w = w as u32;
+    let (w, row) = (w as u32, row_floats(block.half_width));
+    let needed = trellis_bytes(block.half_width) * w;
     if random.once_in(8) {
-        block.choices = random.pick(&[28 * w + 1, 28 * w + 64, 28 * w - 1, 6 * w, 6 * w - 1, 0, 6 * w + 1]);
+        block.choices = random.pick(&[needed + 1, needed + 64, needed - 1, 6 * w, 6 * w - 1, 0, 6 * w + 1]);
     }
     if random.once_in(8) {
-        block.rows = [0; 2].map(|_: u32| random.pick(&[28, 29, 28, 64, 28, 27, 28, 0]));
+        block.rows = [0; 2].map(|_: u32| random.pick(&[row, row + 1, row, 64, row, row - 1, row, 0]));
     }
 }
 
@@ -278,5 +286,16 @@ fn outside(random: &mut Random, block: &mut Block, c: usize, w: usize) {
         if random.once_in(1000) {
             block.levels[at] = random.pick(&[32767, -32767]);
         }
+    }
+}
+
+/// Puts an ideal far from its level near the window's end, so that the tails of the positions before are large and sums with them round to equal ones.
+pub fn weigh_down(random: &mut Random, block: &mut Block) {
+    let (w, _) = window(block.covered());
+    let at = block.scan[block.covered() + w - 1 - random.below(8) as usize] as usize;
+    let ideal = 2f32.powf(6.0 + 8.0 * random.below(1000) as f32 / 1000.0);
+    let unit = block.inverse[at] * block.scale;
+    if unit != 0.0 && (ideal / unit).is_finite() {
+        block.source[at] = ideal / unit;
     }
 }

@@ -1,11 +1,16 @@
-//! Document 01's checks 1 to 14 and document 02's 18, each a plain test, in the order in which they are made: 18 comes straight after 9.
+//! Document 01's checks 1 to 14 and document 02's 18 and 26, each a plain test, in the order in which they are made: 18 comes straight after 9, 26 after 10.
 
-use crate::data::{strategy_covers, window, Block, Book, Search};
+use crate::data::{row_floats, strategy_covers, trellis_bytes, window_under, Block, Book, Search, WHOLE, WIDEST};
 
 /// 0, or the number of the first check that fails.
 pub fn refusal(search: Search, book: &Book, block: &Block) -> u32 {
+    refusal_under(WHOLE, search, book, block)
+}
+
+/// The same with a cap on the window.
+pub fn refusal_under(cap: usize, search: Search, book: &Book, block: &Block) -> u32 {
     match book_refusal(book) {
-        0 => block_refusal(search, block),
+        0 => block_refusal(cap, search, block),
         number => number,
     }
 }
@@ -57,8 +62,8 @@ pub fn all_words(book: &Book) -> bool {
     book.configs.chunks(3).all(has_all_words)
 }
 
-/// Checks 7 to 14 and 18: 0, or the first that fails.
-fn block_refusal(search: Search, block: &Block) -> u32 {
+/// Checks 7 to 14, 18 and 26: 0, or the first that fails.
+fn block_refusal(cap: usize, search: Search, block: &Block) -> u32 {
     let side = |n: u32| [1, 2, 4, 8, 16, 32].contains(&n);
     if !side(block.cx) || !side(block.cy) {
         return 7;
@@ -77,6 +82,9 @@ fn block_refusal(search: Search, block: &Block) -> u32 {
     if !settings_pass(block) {
         return 10;
     }
+    if block.half_width < 1 || block.half_width > WIDEST {
+        return 26;
+    }
     let mut seen = vec![false; 64 * c];
     for &at in &block.scan {
         match seen.get_mut(at as usize) {
@@ -87,7 +95,7 @@ fn block_refusal(search: Search, block: &Block) -> u32 {
     if block.scan[c..].iter().any(|&at| block.levels[at as usize].unsigned_abs() > 32767) {
         return 12;
     }
-    let (w, _) = window(c);
+    let (w, _) = window_under(cap, c);
     let within = |&at: &u32| {
         let at = at as usize;
         (block.source[at] * block.inverse[at] * block.scale).abs() <= 32767.0
@@ -99,7 +107,7 @@ fn block_refusal(search: Search, block: &Block) -> u32 {
     let short = match search {
         Search::Greedy => false,
         Search::Beam => choices < 6 * w,
-        Search::Trellis => choices < 28 * w || row < 28,
+        Search::Trellis | Search::Unfactored => choices < trellis_bytes(block.half_width) as usize * w || row < row_floats(block.half_width),
     };
     if short {
         return 14;

@@ -1,7 +1,7 @@
-//! Inputs with one or two faults each, for the checks 1 to 14 and 18 and their order. A fault may also be none: the limits
+//! Inputs with one or two faults each, for the checks 1 to 14, 18 and 26 and their order. A fault may also be none: the limits
 //! themselves are among the values.
 
-use crate::data::{Block, Book};
+use crate::data::{row_floats, Block, Book, WIDEST};
 use crate::random::Random;
 
 pub fn damage(random: &mut Random, book: &mut Book, block: &mut Block) {
@@ -87,7 +87,7 @@ fn damage_book(random: &mut Random, book: &mut Book) {
 
 fn damage_block(random: &mut Random, block: &mut Block) {
     let n = block.levels.len().min(block.scan.len()).min(block.source.len()).min(block.inverse.len());
-    match random.below(22) {
+    match random.below(24) {
         0 => block.cx = random.pick(&[0, 3, 64, 33, u32::MAX, block.cx.wrapping_mul(2), 1 << 31]),
         1 => block.cy = random.pick(&[0, 5, 64, 31, u32::MAX, block.cy.wrapping_mul(2), 1 << 16]),
         2 => resize(random, &mut block.levels),
@@ -120,10 +120,15 @@ fn damage_block(random: &mut Random, block: &mut Block) {
             block.source[at] = ideal;
             block.inverse[at] = if random.once_in(4) { strange(random) } else { 1.0 / block.scale };
         }
+        21 | 22 => {
+            let any = random.next() as u32;
+            block.half_width = random.pick(&[0, WIDEST + 1, 262, u32::MAX, 1, WIDEST, 1 << 31, any]);
+        }
         _ => {
             block.choices = random.pick(&[0, 1, block.choices.saturating_sub(1)]);
             let at = random.below(2);
-            block.rows[at] = random.pick(&[27, 0, 28]);
+            let row = row_floats(block.half_width.clamp(1, WIDEST));
+            block.rows[at] = random.pick(&[row - 1, 0, row]);
         }
     }
 }

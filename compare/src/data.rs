@@ -5,9 +5,21 @@ pub enum Search {
     Greedy,
     Beam,
     Trellis,
+    Unfactored,
 }
 
-pub const SEARCHES: [Search; 3] = [Search::Greedy, Search::Beam, Search::Trellis];
+impl Search {
+    /// Whether it walks the band: either trellis.
+    pub fn in_band(self) -> bool {
+        matches!(self, Search::Trellis | Search::Unfactored)
+    }
+}
+
+pub const SEARCHES: [Search; 4] = [Search::Greedy, Search::Beam, Search::Trellis, Search::Unfactored];
+
+/// The half-width of the band to begin with, the Rust's own, and the largest.
+pub const HALF_WIDTH: u32 = 6;
+pub const WIDEST: u32 = 12;
 
 #[derive(Clone, Default)]
 pub struct Book {
@@ -30,6 +42,7 @@ pub struct Block {
     pub lambda: f32,
     pub penalty: f32,
     pub distance: f32,
+    pub half_width: u32,
     pub one: f32,
     pub numerator: f32,
     pub scale: f32,
@@ -89,6 +102,9 @@ pub fn strategies(c: usize) -> Vec<u8> {
     (0..27).filter(|&code| strategy_covers(code) == c).collect()
 }
 
+/// A cap on the window that cuts nothing.
+pub const WHOLE: usize = 1024;
+
 /// The length of the window and the part of it that may be restored, for c covered blocks.
 pub fn window(c: usize) -> (usize, usize) {
     if c == 1 {
@@ -96,6 +112,22 @@ pub fn window(c: usize) -> (usize, usize) {
     } else {
         ((64 * c).min(1024).min(63 * c), (24 * c).min(256))
     }
+}
+
+/// The same with a cap on the length.
+pub fn window_under(cap: usize, c: usize) -> (usize, usize) {
+    let (length, restoring) = window(c);
+    (length.min(cap), restoring.min(cap))
+}
+
+/// The floats of a cost row, and the choice bytes of a window position, that the trellis needs for a half-width in range.
+pub fn row_floats(half_width: u32) -> u32 {
+    2 * (2 * half_width + 2)
+}
+
+/// Two choices in a byte.
+pub fn trellis_bytes(half_width: u32) -> u32 {
+    2 * half_width + 2
 }
 
 fn words<T: Copy>(out: &mut Vec<u8>, list: &[T], bytes: impl Fn(T) -> [u8; 4]) {
@@ -121,11 +153,47 @@ impl Book {
     }
 }
 
+/// The record that sets the half-width of the blocks that follow.
+pub fn write_width(half_width: u32, out: &mut Vec<u8>) {
+    out.push(b'W');
+    out.extend(half_width.to_le_bytes());
+}
+
+/// A block file: a half-width's record stands before a block where it changes.
+pub struct BlockFile {
+    pub bytes: Vec<u8>,
+    half_width: u32,
+}
+
+impl BlockFile {
+    pub fn new() -> Self {
+        BlockFile { bytes: Vec::new(), half_width: HALF_WIDTH }
+    }
+
+    pub fn book(&mut self, book: &Book) {
+        book.write(&mut self.bytes);
+    }
+
+    pub fn block(&mut self, block: &Block) {
+        if block.half_width != self.half_width {
+            self.width(block.half_width);
+        }
+        block.write(&mut self.bytes);
+    }
+
+    /// Written though it may change nothing.
+    pub fn width(&mut self, half_width: u32) {
+        write_width(half_width, &mut self.bytes);
+        self.half_width = half_width;
+    }
+}
+
 impl Block {
     pub fn covered(&self) -> usize {
         self.cx as usize * self.cy as usize
     }
 
+    /// Its own record, which does not hold the half-width.
     pub fn write(&self, out: &mut Vec<u8>) {
         out.push(b'C');
         out.extend(self.cx.to_le_bytes());

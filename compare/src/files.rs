@@ -1,6 +1,6 @@
 //! Whole block files: those that end in a record that can't be read, the fixed list of answers, and the sample of `make run`.
 
-use crate::data::{Block, Book, Reply, Search, SEARCHES};
+use crate::data::{row_floats, trellis_bytes, write_width, Block, BlockFile, Book, Reply, Search, HALF_WIDTH, SEARCHES, WIDEST};
 use crate::entropy::prefix_code::PrefixCode;
 use crate::judge::{due, Original, Source};
 use crate::plain::{Problem, Rule, RULES};
@@ -11,7 +11,7 @@ use crate::{blocks, books, checks, made, port, report};
 /// bytes and a row.
 const HELD: [usize; 4] = [14912, 774, 33024, 66048];
 const HELD_LEVELS: usize = 65600;
-const HELD_ROOMS: [u32; 2] = [28736, 64];
+const HELD_ROOMS: [u32; 2] = [26688, 64];
 
 /// The lines that are due for a block.
 fn lines(original: &mut Original, number: usize, book: &Book, block: &Block) -> String {
@@ -26,7 +26,7 @@ fn lines(original: &mut Original, number: usize, book: &Book, block: &Block) -> 
 
 /// A file of a few records and one that can't be read behind them, with what is due for it.
 fn unreadable(random: &mut Random) -> (Vec<u8>, String) {
-    let (mut file, mut text) = (Vec::new(), String::new());
+    let (mut file, mut text) = (BlockFile::new(), String::new());
     let mut original = Original::new();
     // Before any book: a book of no bytes and 0 clusters.
     let mut book = Book::default();
@@ -36,14 +36,22 @@ fn unreadable(random: &mut Random) -> (Vec<u8>, String) {
         if random.once_in(3) {
             book = books::random_book(random);
             original.take(&book);
-            book.write(&mut file);
+            file.book(&book);
         } else {
-            let block = blocks::random_block(random, 1);
-            block.write(&mut file);
+            let width = blocks::random_width(random);
+            let mut block = blocks::random_block(random, 1, width);
+            block.half_width = random.pick(&[width, width, width, 0, WIDEST + 1]);
+            if random.once_in(4) {
+                // Of two in a row the later counts.
+                file.width(random.next() as u32);
+                file.width(block.half_width);
+            }
+            file.block(&block);
             text += &lines(&mut original, number, &book, &block);
             number += 1;
         }
     }
+    let mut file = file.bytes;
     let from = file.len();
     spoilt(random, &mut file);
     if file.len() > from {
@@ -58,10 +66,10 @@ fn spoilt(random: &mut Random, file: &mut Vec<u8>) {
     match random.below(6) {
         0 => {}
         1 => {
-            // Any tag but the two, and anything behind it.
+            // Any tag but the three, and anything behind it.
             let tag = loop {
                 let byte = random.next() as u8;
-                if byte != b'K' && byte != b'C' {
+                if !b"KCW".contains(&byte) {
                     break byte;
                 }
             };
@@ -81,7 +89,7 @@ fn spoilt(random: &mut Random, file: &mut Vec<u8>) {
             book.write(file);
         }
         3 => {
-            let mut block = blocks::random_block(random, 1);
+            let mut block = blocks::random_block(random, 1, HALF_WIDTH);
             match random.below(7) {
                 0 => block.levels.resize(HELD_LEVELS + 1, 0),
                 1 => block.scan.resize(HELD_LEVELS + 1, 0),
@@ -95,10 +103,10 @@ fn spoilt(random: &mut Random, file: &mut Vec<u8>) {
         }
         _ => {
             // Cut short, at least by a byte.
-            if random.once_in(2) {
-                books::random_book(random).write(file);
-            } else {
-                blocks::random_block(random, 1).write(file);
+            match random.below(5) {
+                0 | 1 => books::random_book(random).write(file),
+                2 | 3 => blocks::random_block(random, 1, HALF_WIDTH).write(file),
+                _ => write_width(random.next() as u32, file),
             }
             let whole = file.len() - from;
             let kept = if random.once_in(2) { random.below(whole.min(80)) } else { random.below(whole) };
@@ -159,7 +167,7 @@ fn listed(seed: u64) -> Vec<(usize, u64)> {
         list.extend(numbers.map(|index| (class, index)));
     }
     // Of the damaged inputs the first two that each check refuses.
-    for number in (1..=14).chain([18]) {
+    for number in (1..=14).chain([18, 26]) {
         let refused = |&index: &u64| {
             let (book, block) = made(seed, 0, index);
             small(0, index) && checks::refusal(Search::Trellis, &book, &block) == number
@@ -209,8 +217,9 @@ fn untrained(later: bool) -> Book {
 
 /// Examples of a search: of document 01 an all-zero block, every symbol at price 1 and then at +infinity, and a block with coefficients that are not numbers
 /// between two good ones; and two blocks whose counts lie in a cluster that nobody trained, which the trellis refused with 15 while that cluster cost
-/// +infinity throughout; a good block under 5,2,2 and 6,3,3, and one with a level of 100, for which 6,3,3 has no word. Last, the
-/// block whose rounding buys nearly all that it may (ticket 13).
+/// +infinity throughout; a good block under 5,2,2 and 6,3,3, and one with a level of 100, for which 6,3,3 has no word; the
+/// block whose rounding buys nearly all that it may (ticket 13). Last, a block of 30 levels that are cheap to drop, at every half-width of
+/// the band: the wider, the more go.
 fn examples() -> Vec<(Book, Vec<Block>)> {
     let zeros = Block { lambda: 3.0, channel: 1, ..blocks::empty_block() };
     let mut good = zeros.clone();
@@ -220,6 +229,10 @@ fn examples() -> Vec<(Book, Vec<Block>)> {
     failed.source[3..5].fill(f32::NAN);
     let mut far = good.clone();
     (far.source[1], far.levels[1]) = (100.0, 100);
+    let mut cheap = Block { choices: trellis_bytes(WIDEST) * 63, rows: [row_floats(WIDEST); 2], ..zeros.clone() };
+    cheap.source[1..31].fill(0.4);
+    cheap.levels[1..31].fill(1);
+    let widths = (1..=WIDEST).map(|half_width| Block { half_width, ..cheap.clone() }).collect();
     vec![
         (one_cluster(|_| 1.0), vec![zeros.clone()]),
         (one_cluster(|_| f32::INFINITY), vec![zeros.clone()]),
@@ -229,12 +242,13 @@ fn examples() -> Vec<(Book, Vec<Block>)> {
         (split_by([5, 2, 2], |symbol| 0.5 + 0.25 * symbol as f32), vec![good.clone()]),
         (split_by([6, 3, 3], |symbol| 0.5 + 0.25 * symbol as f32), vec![good, far]),
         (books::free_of_cost(), vec![blocks::nearly_off()]),
+        (one_cluster(|symbol| 0.5 + 0.25 * symbol as f32), widths),
     ]
 }
 
 /// Writes the fixed list as a program's `stdin` and `stdout`: the blocks, and the Rust's answers.
 pub fn write_list(folder: &str, seed: u64) {
-    let (mut file, mut text) = (Vec::new(), String::new());
+    let (mut file, mut text) = (BlockFile::new(), String::new());
     let mut original = Original::new();
     let mut latest = None;
     let list = listed(seed);
@@ -242,29 +256,29 @@ pub fn write_list(folder: &str, seed: u64) {
         let (book, block) = made(seed, class, index);
         let name = (class, index / crate::per_book(class));
         if latest != Some(name) {
-            book.write(&mut file);
+            file.book(&book);
             original.take(&book);
             latest = Some(name);
         }
-        block.write(&mut file);
+        file.block(&block);
         text += &lines(&mut original, number, &book, &block);
     }
     let number = list.len() + append(examples(), list.len(), &mut file, &mut text);
     let path = |name: &str| format!("{folder}/{name}");
-    std::fs::write(path("stdin"), file).expect("stdin is written");
+    std::fs::write(path("stdin"), file.bytes).expect("stdin is written");
     std::fs::write(path("stdout"), text).expect("stdout is written");
     println!("{number} blocks with the Rust's answers in {folder}; each rule decides one of them");
 }
 
 /// Appends blocks under their books to a file, with the lines that are due for them, numbered from `first` on; how many they are.
-fn append(groups: Vec<(Book, Vec<Block>)>, first: usize, file: &mut Vec<u8>, text: &mut String) -> usize {
+fn append(groups: Vec<(Book, Vec<Block>)>, first: usize, file: &mut BlockFile, text: &mut String) -> usize {
     let mut original = Original::new();
     let mut number = first;
     for (book, blocks) in groups {
-        book.write(file);
+        file.book(&book);
         original.take(&book);
         for block in blocks {
-            block.write(file);
+            file.block(&block);
             *text += &lines(&mut original, number, &book, &block);
             number += 1;
         }
@@ -284,7 +298,7 @@ fn parting(book: &Book) -> Block {
             block.source[at] = eighths / 8.0;
             block.levels[at] = block.source[at].round() as i32;
         }
-        let [greedy, beam, trellis] = SEARCHES.map(|search| due(&mut original, search, book, &block).outcome);
+        let [greedy, beam, trellis, _] = SEARCHES.map(|search| due(&mut original, search, book, &block).outcome);
         let cheaper = match (trellis.reply, beam.reply) {
             (Reply::Cost { bits: found, .. }, Reply::Cost { bits: other, .. }) => f32::from_bits(found) < f32::from_bits(other),
             _ => false,
@@ -307,9 +321,9 @@ pub fn write_sample(folder: &str) {
         (book, vec![good.clone(), failed, good, zeros.clone()]),
         (one_cluster(|_| f32::INFINITY), vec![zeros]),
     ];
-    let (mut file, mut text) = (Vec::new(), String::new());
+    let (mut file, mut text) = (BlockFile::new(), String::new());
     append(groups, 0, &mut file, &mut text);
     let path = |name: &str| format!("{folder}/{name}");
-    std::fs::write(path("blocks.bin"), file).expect("the sample is written");
+    std::fs::write(path("blocks.bin"), file.bytes).expect("the sample is written");
     std::fs::write(path("blocks.txt"), text).expect("its answers are written");
 }

@@ -17,9 +17,10 @@ mod report;
 mod scans;
 #[allow(dead_code)]
 mod stand_ins;
+mod widths;
 
-use data::{Block, Book, Reply, Search, SEARCHES};
-use judge::{due, Due, Original, Source};
+use data::{Block, BlockFile, Book, Reply, Search, HALF_WIDTH, SEARCHES};
+use judge::{due, width_asked, Due, Original, Source};
 use random::Random;
 use report::Tally;
 use stand_ins::*;
@@ -43,9 +44,11 @@ pub struct Options {
     pub list: Option<String>,
     pub sample: Option<String>,
     pub files: u64,
+    pub widths: bool,
+    pub heavy: bool,
 }
 
-const USAGE: &str = "compare [BLOCKS] [--seed S] [--classes C,C,..] [--only INDEX] [--port PROGRAM] [--without SEARCH] [--threads T] [--files F] [--power] [--save FILE] [--list FOLDER] [--sample FOLDER]";
+const USAGE: &str = "compare [BLOCKS] [--seed S] [--classes C,C,..] [--only INDEX] [--port PROGRAM] [--without SEARCH] [--threads T] [--files F] [--power] [--widths] [--heavy] [--save FILE] [--list FOLDER] [--sample FOLDER]";
 
 fn options() -> Result<Options, String> {
     let mut options = Options {
@@ -61,6 +64,8 @@ fn options() -> Result<Options, String> {
         list: None,
         sample: None,
         files: 200,
+        widths: false,
+        heavy: false,
     };
     let mut words = std::env::args().skip(1);
     while let Some(word) = words.next() {
@@ -76,6 +81,8 @@ fn options() -> Result<Options, String> {
             "--files" => options.files = number(value()?)?,
             "--save" => options.save = Some(value()?),
             "--power" => options.power = true,
+            "--widths" => options.widths = true,
+            "--heavy" => options.heavy = true,
             "--classes" => {
                 let list = value()?;
                 options.classes = list.split(',').map(|c| number(c.into()).map(|c| c as usize)).collect::<Result<_, _>>()?;
@@ -121,7 +128,8 @@ pub fn made(seed: u64, class: usize, index: u64) -> (Book, Block) {
         0 => random.pick(&[1, 1, 1, 2, 2, 4, 8, 16, 64]),
         c => c,
     };
-    let mut block = blocks::random_block(&mut random, c);
+    let half_width = blocks::random_width(&mut Random::of(&[seed, class as u64, index, 3]));
+    let mut block = blocks::random_block(&mut random, c, half_width);
     if class == 0 {
         damage::damage(&mut random, &mut book, &mut block);
     }
@@ -139,28 +147,31 @@ struct Made {
 /// Judges the blocks from `from` to `to` of a class.
 fn batch(options: &Options, class: usize, from: u64, to: u64, said: &AtomicU64) -> Tally {
     let mut tally = Tally::default();
-    let mut file = Vec::new();
+    let mut file = BlockFile::new();
     let mut all: Vec<Made> = Vec::new();
     let mut original = Original::new();
     let mut latest: Option<(u64, Book)> = None;
     for index in from..to {
-        let (book, block) = made(options.seed, class, index);
+        let (book, mut block) = made(options.seed, class, index);
+        if options.heavy {
+            blocks::weigh_down(&mut Random::of(&[options.seed, class as u64, index, 4]), &mut block);
+        }
         let name = index / per_book(class);
         if latest.as_ref().is_none_or(|(at, _)| *at != name) {
-            book.write(&mut file);
+            file.book(&book);
             original.take(&book);
             latest = Some((name, book));
         }
         let book = &latest.as_ref().unwrap().1;
-        block.write(&mut file);
+        file.block(&block);
         let due = SEARCHES.map(|search| due(&mut original, search, book, &block)).into();
         all.push(Made { index, book: name, block, due });
     }
     if let Some(path) = &options.save {
-        std::fs::write(path, &file).expect("the file is written");
+        std::fs::write(path, &file.bytes).expect("the file is written");
     }
     let printed = match &options.port {
-        Some(program) => Some(port::run(program, file)),
+        Some(program) => Some(port::run(program, file.bytes)),
         None => None,
     };
     let mut lines = match &printed {
@@ -215,7 +226,9 @@ fn judge_one(
     if due.source == Source::Rust {
         counts.compared += 1;
         counts.equal += u64::from(faults.is_empty());
+        counts.replaced += u64::from(width_asked(search, &made.block) != HALF_WIDTH);
         counts.ties += u64::from(due.tie);
+        counts.rounded += u64::from(due.rounded);
         counts.changed += u64::from(due.outcome.levels != made.block.levels);
         counts.halves += u64::from(power::has_half(&made.block));
     }
@@ -278,6 +291,13 @@ fn main() -> std::process::ExitCode {
     if options.power {
         power::print(&options);
         return 0.into();
+    }
+    if options.widths {
+        let Some(program) = &options.port else {
+            eprintln!("--widths is about the port: name it\n{USAGE}");
+            return 2.into();
+        };
+        return u8::from(!widths::hold(&options, program)).into();
     }
     let start = std::time::Instant::now();
     let said = AtomicU64::new(0);

@@ -1,9 +1,9 @@
-//! The three searches, written from their definitions in plain form: no factored rows, no shared contexts, no scratch.
+//! The searches, written from their definitions in plain form: no factored rows, no shared contexts, no scratch.
 //! Every float is an f32, every operation is rounded once, sums associate as bracketed.
 //!
 //! `Rule` names one rule to break. The searches with a broken rule tell how many of the made blocks a rule decides.
 
-use crate::data::{window, Block, Book, Outcome, Reply, Search};
+use crate::data::{window_under, Block, Book, Outcome, Reply, Search, HALF_WIDTH, WHOLE};
 
 /// A rule of the definitions, broken. `Kept` breaks none.
 #[derive(Clone, Copy, PartialEq, Eq, Debug)]
@@ -37,6 +37,8 @@ pub enum Rule {
     NarrowBand,
     /// Trellis: no band.
     NoBand,
+    /// Trellis: the half-width of the band is never above its first value.
+    AtMostSix,
     /// Beam: three or fewer paths are sorted too.
     AlwaysSorted,
     /// Beam: no destination is named for a path of infinite cost.
@@ -53,7 +55,7 @@ pub enum Rule {
     NoSkip,
 }
 
-pub const RULES: [Rule; 21] = [
+pub const RULES: [Rule; 22] = [
     Rule::SumsFromTheRight,
     Rule::NoPenalty,
     Rule::TokenAtNothing,
@@ -68,6 +70,7 @@ pub const RULES: [Rule; 21] = [
     Rule::BandOnWhole,
     Rule::NarrowBand,
     Rule::NoBand,
+    Rule::AtMostSix,
     Rule::AlwaysSorted,
     Rule::FiniteNamed,
     Rule::RankedByFirst,
@@ -224,12 +227,19 @@ pub struct Problem<'a> {
     tail: [f32; 2],
     /// How often a comparison met an equal finite cost.
     pub ties: u64,
+    /// Trellis: how often rounding alone made two nonzero levels equal, the later one the cheaper before the tail was added.
+    pub rounded: u64,
 }
 
 impl<'a> Problem<'a> {
     pub fn new(book: &'a Book, block: &'a Block, rule: Rule) -> Self {
+        Problem::under(WHOLE, book, block, rule)
+    }
+
+    /// With a cap on the window.
+    pub fn under(cap: usize, book: &'a Book, block: &'a Block, rule: Rule) -> Self {
         let c = block.covered();
-        let (w, restore) = window(c);
+        let (w, restore) = window_under(cap, c);
         let restore = if rule == Rule::RestoreAll { w } else { restore };
         let base = (24 * c).min(64).min(63 * c);
         let input: Vec<i32> = block.scan.iter().map(|&at| block.levels[at as usize]).collect();
@@ -257,6 +267,7 @@ impl<'a> Problem<'a> {
             cand,
             tail: [0.0; 2],
             ties: 0,
+            rounded: 0,
         };
         it.tail = [it.tail_cost(0), it.tail_cost(1)];
         if rule == Rule::TailForZero {
@@ -395,7 +406,8 @@ impl<'a> Problem<'a> {
         match search {
             Search::Greedy => self.greedy(),
             Search::Beam => self.beam(),
-            Search::Trellis => self.trellis(),
+            // two walks, one definition
+            Search::Trellis | Search::Unfactored => self.trellis(),
         }
     }
 
@@ -411,8 +423,9 @@ impl<'a> Problem<'a> {
     fn band(&self) -> usize {
         match self.rule {
             Rule::NoBand => self.w + 1,
-            Rule::NarrowBand => 5,
-            _ => 6,
+            Rule::NarrowBand => self.block.half_width as usize - 1,
+            Rule::AtMostSix => self.block.half_width.min(HALF_WIDTH) as usize,
+            _ => self.block.half_width as usize,
         }
     }
 
@@ -453,6 +466,10 @@ impl<'a> Problem<'a> {
                         let x = self.path(i, r, p, q, next[nz(q)]);
                         let local = self.local(i, r, p, q);
                         let best = costs[r - from][p];
+                        let taken = picks[r - from][p];
+                        if x == best && x < INF && q != 0 && taken != 0 && local < self.local(i, r, p, taken) {
+                            self.rounded += 1;
+                        }
                         let replaces = if self.rule == Rule::LocalFirst && q != 0 {
                             x < INF && local < least_local
                         } else {

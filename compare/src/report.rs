@@ -20,8 +20,11 @@ pub struct Counts {
     /// By the Rust's levels, the definition's cost and count.
     pub compared: u64,
     pub equal: u64,
-    /// Of those: blocks where a search met equal costs, and where the levels changed.
+    /// Of those: by the Rust's text with another half-width of the band.
+    pub replaced: u64,
+    /// Of those: blocks where a search met equal costs, such as rounding alone made, and where the levels changed.
     pub ties: u64,
+    pub rounded: u64,
     pub changed: u64,
     pub halves: u64,
     /// Refusals that were due, by number.
@@ -36,7 +39,7 @@ pub struct Counts {
 #[derive(Default, Clone)]
 pub struct Tally {
     pub blocks: u64,
-    pub searches: [Counts; 3],
+    pub searches: [Counts; SEARCHES.len()],
 }
 
 impl Tally {
@@ -45,7 +48,9 @@ impl Tally {
         for (mine, theirs) in self.searches.iter_mut().zip(&other.searches) {
             mine.compared += theirs.compared;
             mine.equal += theirs.equal;
+            mine.replaced += theirs.replaced;
             mine.ties += theirs.ties;
+            mine.rounded += theirs.rounded;
             mine.changed += theirs.changed;
             mine.halves += theirs.halves;
             mine.differences += theirs.differences;
@@ -73,12 +78,13 @@ impl Counts {
 }
 
 pub const HEADER: &str =
-    "      c    blocks  search     compared      equal  with ties    changed  with a half  not compared  no symbol  differ  refused as due (number: times)";
+    "      c    blocks  search     compared      equal  other width  with ties  by rounding    changed  with a half  not compared  no symbol  differ  refused as due (number: times)";
 
 pub const LEGEND: &str = "\
-compared: the levels with the Rust's, cost and count with the definition's for them. with ties, changed, with a half: of these, where a search met equal costs, changed a level, or may
-restore an ideal that is an exact half. not compared: refused by one of checks 1 to 14 and 18, which narrow the Rust's domain, or by 15, where the Rust has no answer; held to the number and to an
-untouched block. 16: the Rust left the block too. no symbol: the Rust indexed past symbol 127 and panicked; held to the plain definitions alone.";
+compared: the levels with the Rust's, cost and count with the definition's for them. other width: of these, by the Rust's text with its half-width of the band, 6, replaced by the block's. with ties,
+by rounding, changed, with a half: where a search met equal costs, met such as rounding alone made equal with the later nonzero level the cheaper before the tail, changed a level, or may restore an ideal that is an exact half. not compared: refused by one of checks 1 to 14, 18 and 26, which narrow the Rust's
+domain, or by 15, where the Rust has no answer; held to the number and to an untouched block. 16: the Rust left the block too. no symbol: the Rust indexed past symbol 127 and panicked; held to the plain
+definitions alone.";
 
 pub fn row(class: &str, tally: &Tally, left_out: &[Search]) -> String {
     let mut text = String::new();
@@ -86,12 +92,14 @@ pub fn row(class: &str, tally: &Tally, left_out: &[Search]) -> String {
         let refused: Vec<String> = counts.refused.iter().map(|(number, times)| format!("{number}: {times}")).collect();
         let note = if left_out.contains(search) { "  (the port's was left out)" } else { "" };
         text += &format!(
-            "{class:>7} {:>9}  {:<8} {:>10} {:>10} {:>10} {:>10} {:>12} {:>13} {:>10} {:>7}  {}{note}\n",
+            "{class:>7} {:>9}  {:<10} {:>8} {:>10} {:>12} {:>10} {:>12} {:>10} {:>12} {:>13} {:>10} {:>7}  {}{note}\n",
             tally.blocks,
             format!("{search:?}"),
             counts.compared,
             counts.equal,
+            counts.replaced,
             counts.ties,
+            counts.rounded,
             counts.changed,
             counts.halves,
             counts.not_compared,

@@ -13,15 +13,15 @@ fn main() -> Result<(), Refusal> {
     let mut levels: Vec<i32> = source.iter().map(|x| x.round() as i32).collect();
     let block = Block {
         shape: Shape { cx: 1, cy: 1, strategy: 0, channel: 1, qf_hi: false, predicted: 4 },
-        settings: Settings { channel_weight: 1.0, lambda: 0.1, penalty: 1.0, distance: 1.0 },
-        bias: Bias::new(0.9),
+        settings: Settings { lambda: 0.1, ..Settings::default() },
+        bias: Bias::default(),
         scale: 1.0,
         scan: &scan,
         source: &source,
         inv_qm: &[1.0; 64],
     };
     match rdoq_block(Search::Trellis, &book, &block, &mut levels, &mut room) {
-        Ok(answer) => println!("{} nonzero levels, cost {:?}: {:?}", answer.count, answer.cost, &levels[1..12]),
+        Ok(answer) => println!("{} nonzero levels, cost {:?}", answer.count, answer.cost),
         Err(refusal) => println!("{refusal}; every level is as it was"),
     }
     Ok(())

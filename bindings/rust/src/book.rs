@@ -163,6 +163,31 @@ pub enum Pricing {
     Strict,
 }
 
+/// The prefix code of one cluster.
+#[derive(Clone, Copy, Debug, PartialEq, Eq, Hash)]
+pub struct PrefixCode<'a> {
+    /// How long the word of each symbol is; 0 for a symbol without one. At most 128; symbols past the end have no word.
+    pub depths: &'a [u8],
+    /// The code has one symbol, whose word takes no bits.
+    pub single_symbol: bool,
+}
+
+/// Lists of at most 128 numbers, one for each cluster, filled up with 0 and put together; none where they are not that.
+fn put_together<'a, T: Copy + Default + 'a>(clusters: u32, lists: impl ExactSizeIterator<Item = &'a [T]>) -> Vec<T> {
+    let mut all = Vec::with_capacity(SYMBOLS * lists.len());
+    if u32::try_from(lists.len()) != Ok(clusters) {
+        return all;
+    }
+    for list in lists {
+        if list.len() > SYMBOLS {
+            return Vec::new();
+        }
+        all.extend_from_slice(list);
+        all.resize(all.len() + SYMBOLS - list.len(), T::default());
+    }
+    all
+}
+
 /// Makes a [`Book`] from a context map, configurations and prices.
 ///
 /// From symbol prices:
@@ -182,14 +207,11 @@ pub enum Pricing {
 /// From a prefix code:
 ///
 /// ```
-/// use rdoq::{BookBuilder, Pricing, CONTEXTS, SYMBOLS};
+/// use rdoq::{BookBuilder, PrefixCode, Pricing, CONTEXTS};
 ///
-/// let mut depths = vec![0; SYMBOLS];
-/// depths[0] = 1;
-/// depths[1] = 2;
-/// depths[2] = 2;
+/// let code = PrefixCode { depths: &[1, 2, 2], single_symbol: false };
 /// let book = BookBuilder::new(vec![0; CONTEXTS], &[[4, 2, 0]])
-///     .prefix_code(&depths, &[0], Pricing::Strict)?
+///     .prefix_clusters(&[code], Pricing::Strict)?
 ///     .fill()?;
 /// assert_eq!(book.token_bits(0, 2)?, 2.0);
 /// assert_eq!(book.token_bits(0, 3)?, f32::INFINITY);
@@ -199,13 +221,9 @@ pub enum Pricing {
 /// From an ANS code:
 ///
 /// ```
-/// use rdoq::{BookBuilder, CONTEXTS, SYMBOLS};
+/// use rdoq::{BookBuilder, CONTEXTS};
 ///
-/// let mut freqs = vec![0; SYMBOLS];
-/// freqs[0] = 2048;
-/// freqs[1] = 1024;
-/// freqs[2] = 1024;
-/// let book = BookBuilder::new(vec![0; CONTEXTS], &[[4, 2, 0]]).ans_code(&freqs)?.fill()?;
+/// let book = BookBuilder::new(vec![0; CONTEXTS], &[[4, 2, 0]]).ans_clusters(&[&[2048, 1024, 1024]])?.fill()?;
 /// assert_eq!([book.token_bits(0, 0)?, book.token_bits(0, 2)?, book.token_bits(0, 3)?], [1.0, 2.0, 15.0]);
 /// # Ok::<(), rdoq::Refusal>(())
 /// ```
@@ -256,6 +274,18 @@ impl BookBuilder {
         Ok(self)
     }
 
+    /// The same with one code for each cluster, its list of depths as long as it is.
+    ///
+    /// # Errors
+    ///
+    /// [`MapLength`](Refusal::MapLength) where the clusters are not 1 to 256, then [`BookLength`](Refusal::BookLength) where
+    /// there is not one code for each, or one has more than 128 depths.
+    pub fn prefix_clusters(self, codes: &[PrefixCode<'_>], pricing: Pricing) -> Result<BookBuilder, Refusal> {
+        let depths = put_together(self.clusters, codes.iter().map(|code| code.depths));
+        let singles: Vec<u8> = codes.iter().map(|code| u8::from(code.single_symbol)).collect();
+        self.prefix_code(&depths, &singles, pricing)
+    }
+
     /// Prices the symbols by an ANS code: 128 frequencies for each cluster, 4,096 being the whole. Frequency 0 costs 15 bits, any other 12 less its logarithm,
     /// by the original's routine on a float's bits. They need not add up to 4,096.
     ///
@@ -271,6 +301,17 @@ impl BookBuilder {
         })?;
         self.symbols = symbols;
         Ok(self)
+    }
+
+    /// The same with one list for each cluster, as long as it is: symbols past its end have frequency 0.
+    ///
+    /// # Errors
+    ///
+    /// [`MapLength`](Refusal::MapLength) where the clusters are not 1 to 256, then [`BookLength`](Refusal::BookLength) where
+    /// there is not one list for each, or one has more than 128 frequencies, then [`Frequency`](Refusal::Frequency).
+    pub fn ans_clusters(self, freqs: &[&[u16]]) -> Result<BookBuilder, Refusal> {
+        let freqs = put_together(self.clusters, freqs.iter().copied());
+        self.ans_code(&freqs)
     }
 
     /// Fills the ready prices. The book passes [`Book::check`].

@@ -2,6 +2,7 @@
 use core::ffi::c_float;
 
 extern "C" {
+    pub fn rdoq_version() -> u32;
     pub fn rdoq_check_book(
         clusters: u32, map: *const u8, map_len: usize, configs: *const u8, configs_len: usize, symbols: *const c_float,
         symbols_len: usize, ready: *const c_float, ready_len: usize,
@@ -30,10 +31,27 @@ extern "C" {
         search: u32, clusters: u32, map: *const u8, map_len: usize, configs: *const u8, configs_len: usize,
         symbols: *const c_float, symbols_len: usize, ready: *const c_float, ready_len: usize, cx: u32, cy: u32, strategy: u8,
         channel: u8, qf_hi: bool, predicted: u8, channel_weight: c_float, lambda: c_float, penalty: c_float, distance: c_float,
+        half_width: u32, one: c_float, numerator: c_float, scale: c_float, scan: *const u32, scan_len: usize,
+        source: *const c_float, source_len: usize, inv_qm: *const c_float, inv_qm_len: usize, levels: *mut i32, levels_len: usize,
+        choices: *mut u8, choices_len: usize, row_a: *mut c_float, row_a_len: usize, row_b: *mut c_float, row_b_len: usize,
+        cost: *mut c_float, count: *mut u32,
+    ) -> u32;
+    pub fn rdoq_small_block(
+        search: u32, clusters: u32, map: *const u8, map_len: usize, configs: *const u8, configs_len: usize,
+        symbols: *const c_float, symbols_len: usize, ready: *const c_float, ready_len: usize, cx: u32, cy: u32, strategy: u8,
+        channel: u8, qf_hi: bool, predicted: u8, channel_weight: c_float, lambda: c_float, penalty: c_float, distance: c_float,
         one: c_float, numerator: c_float, scale: c_float, scan: *const u32, scan_len: usize, source: *const c_float,
         source_len: usize, inv_qm: *const c_float, inv_qm_len: usize, levels: *mut i32, levels_len: usize, choices: *mut u8,
         choices_len: usize, row_a: *mut c_float, row_a_len: usize, row_b: *mut c_float, row_b_len: usize, cost: *mut c_float,
         count: *mut u32,
+    ) -> u32;
+    pub fn rdoq_group(
+        search: u32, clusters: u32, map: *const u8, map_len: usize, configs: *const u8, configs_len: usize,
+        symbols: *const c_float, symbols_len: usize, ready: *const c_float, ready_len: usize, blocks: *const u32,
+        blocks_len: usize, settings: *const c_float, settings_len: usize, scans: *const u32, scans_len: usize,
+        sources: *const c_float, sources_len: usize, inv_qms: *const c_float, inv_qms_len: usize, levels: *mut i32,
+        levels_len: usize, choices: *mut u8, choices_len: usize, row_a: *mut c_float, row_a_len: usize, row_b: *mut c_float,
+        row_b_len: usize, settled: *mut u32,
     ) -> u32;
     pub fn rdoq_store_put(
         room: *mut u64, room_len: usize, record: *mut u64, record_len: usize, block: u32, tokens: *const u64, tokens_len: usize,
@@ -61,6 +79,17 @@ extern "C" {
         ideal: c_float, current: i32, restore: bool, levels: *mut i32, levels_len: usize, count: *mut u32,
     ) -> u32;
     pub fn rdoq_window_len(covered_blocks: u32, length: *mut usize, restoring: *mut usize) -> u32;
+    pub fn rdoq_write_tokens(
+        clusters: u32, map: *const u8, map_len: usize, configs: *const u8, configs_len: usize, cx: u32, cy: u32, strategy: u8,
+        channel: u8, qf_hi: bool, predicted: u8, scan: *const u32, scan_len: usize, levels: *const i32, levels_len: usize,
+        contexts: *mut u32, contexts_len: usize, symbols: *mut u32, symbols_len: usize, extra_bits: *mut u32,
+        extra_bits_len: usize, bits: *mut u32, bits_len: usize, count: *mut u32,
+    ) -> u32;
+    pub fn rdoq_read_tokens(
+        clusters: u32, map: *const u8, map_len: usize, configs: *const u8, configs_len: usize, cx: u32, cy: u32, strategy: u8,
+        channel: u8, qf_hi: bool, predicted: u8, scan: *const u32, scan_len: usize, symbols: *const u32, symbols_len: usize,
+        bits: *const u32, bits_len: usize, levels: *mut i32, levels_len: usize, count: *mut u32,
+    ) -> u32;
     pub fn rdoq_tally_add(
         clusters: u32, map: *const u8, map_len: usize, configs: *const u8, configs_len: usize, contexts: *const u32,
         contexts_len: usize, values: *const u32, values_len: usize, counts: *mut u32, counts_len: usize, extra: *mut u64,

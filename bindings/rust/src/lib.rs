@@ -1,9 +1,10 @@
-//! RDOQ, rate-distortion optimised quantisation, for JPEG XL encoders: the level search of one block. It weighs distortion
-//! against the price of the tokens that would be written, and re-picks the levels.
+//! RDOQ, rate-distortion optimised quantisation, for JPEG XL encoders: the level search of a block, and of a whole group of them. It weighs
+//! distortion against the price of the tokens that would be written, and re-picks the levels.
 //!
 //! The work is done by a library in Rattle, a Rust-like language in which every function is proved to meet its contract; this
 //! crate is a safe wrapper of its C interface. An encoder keeps its rate control and its bit writing, builds a [`Book`] for its
-//! entropy code, and calls [`rdoq_block`] for each block.
+//! entropy code, and calls [`rdoq_group`] for the blocks of a group, or [`rdoq_block`] for one. [`small`] has the searches for blocks of one or two covered blocks over
+//! a shorter window, in 672 bytes of room.
 //!
 //! ```
 //! use rdoq::{rdoq_block, Bias, Block, BookBuilder, Refusal, Room, Search, Settings, Shape, CONTEXTS, SYMBOLS};
@@ -52,8 +53,8 @@
 //!   [`Refusal::ReadyPrice`], and answers are not the defined ones.
 //! - **Threads.** Calls touch only what is lent to them, so any number may run at once and share a book; each thread needs
 //!   a [`Room`] of its own.
-//! - **Linking** needs `librdoq_c.a`, x86-64 Linux: from `make library`, or in the folder that `RDOQ_LIB_DIR` names.
-//!   `cargo check` and `cargo doc` do not need it.
+//! - **Linking** needs `librdoq_c.a`, x86-64 Linux: from `make library`, in the `lib` of an unpacked release, or in the
+//!   folder that `RDOQ_LIB_DIR` names. `cargo check` and `cargo doc` do not need it. [`version()`] is the linked library's.
 //!
 //! # Coming from jixel
 //!
@@ -62,7 +63,7 @@
 //! | jixel | Here |
 //! |---|---|
 //! | `channel_weight` | [`Settings::channel_weight`] |
-//! | `prices: &FrozenTokenPrices` | `&`[`Book`]; from [`BookBuilder::prefix_code`] or [`BookBuilder::ans_code`] |
+//! | `prices: &FrozenTokenPrices` | `&`[`Book`]; from [`BookBuilder::prefix_clusters`] (its `prefix_codes`) or [`BookBuilder::ans_clusters`] |
 //! | `scan` | [`Block::scan`]: 64 indices for each covered block, each index once |
 //! | `source` | [`Block::source`] |
 //! | `inv_qm` | [`Block::inv_qm`] |
@@ -82,8 +83,13 @@
 //! | `scratch: &mut RdoqScratch` | `&mut` [`Room`] |
 //! | (no result) | [`Answer`], or a [`Refusal`] in place of a panic |
 //!
+//! The half-width of the trellis's band, a constant of 6 there, is [`Settings::half_width`]. Its `window_cap`, an argument of the
+//! single searches, is 32 in [`small`] and elsewhere what its `rdoq_block` passes.
+//!
 //! The explicit biases of `DequantBias::channels` have a numerator other than 0.145 and are refused
 //! ([`Refusal::Settings`]).
+//!
+//! Its encoder predicts a block's count with `predict_from_top_and_left` and calls `rdoq_block` block by block: [`rdoq_group`] does both.
 //!
 //! Of its other functions `pack_signed`, `uint_encode_with_config`, `fine_block_context`, `fine_non_zero_context`,
 //! `fine_zero_density_contexts_offset`, `zero_density_context` and `zero_density_context_8x8` have their names here;
@@ -102,14 +108,18 @@ extern crate std;
 
 mod book;
 mod ffi;
+mod group;
 mod leaves;
 mod refusal;
 mod search;
 mod short;
+pub mod small;
 mod store;
 mod tally;
+mod tokens;
 
-pub use book::{Book, BookBuilder, Pricing, CONTEXTS, READY, SYMBOLS};
+pub use book::{Book, BookBuilder, PrefixCode, Pricing, CONTEXTS, READY, SYMBOLS};
+pub use group::{rdoq_group, GroupBlock, Stopped};
 pub use leaves::{
     candidates, chroma_weight, distortion_weight, fine_block_context, fine_non_zero_context, fine_zero_density_contexts_offset,
     lambda, level, pack_signed, uint_encode_with_config, window_len, zero_density_context, zero_density_context_8x8, Config, Split,
@@ -119,3 +129,17 @@ pub use refusal::Refusal;
 pub use search::{rdoq_block, Answer, Bias, Block, Room, Search, Settings, Shape, STACK_BYTES};
 pub use store::{TokenStore, STORE_RECORD, STORE_RUNS};
 pub use tally::Tally;
+pub use tokens::{read_lists, read_tokens, write_tokens, Token, TokenBuffer};
+
+/// The version of the library that was linked: major, minor, patch. It is this crate's own where both are of one release; elsewhere a
+/// call may be declared otherwise than it is defined, so a program that picks its library up at run time should compare.
+///
+/// ```
+/// let (major, minor, patch) = rdoq::version();
+/// println!("rdoq {major}.{minor}.{patch}");
+/// ```
+pub fn version() -> (u32, u32, u32) {
+    // SAFETY: the call takes nothing and touches nothing.
+    let number = unsafe { ffi::rdoq_version() };
+    (number / 1_000_000, number / 1_000 % 1_000, number % 1_000)
+}

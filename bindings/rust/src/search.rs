@@ -1,5 +1,6 @@
 use crate::book::Book;
 use crate::ffi;
+use crate::group::Lists;
 use crate::leaves::window_len;
 use crate::refusal::{answered, Refusal};
 use crate::short::Short;
@@ -9,14 +10,22 @@ use core::fmt;
 /// No call into the library takes more of its thread's stack.
 pub const STACK_BYTES: usize = 20_480;
 
-/// The floats of a cost row.
-const ROW: usize = 28;
-/// The choice bytes of a window position, for the trellis.
-const CHOICES: usize = 28;
-/// And for the beam.
-const BEAM_CHOICES: usize = 6;
+/// The largest half-width of the trellis's band.
+const WIDEST: u32 = 12;
 /// The longest window.
 const LONGEST: usize = 1_024;
+/// The choice bytes of a window position, for the beam.
+const BEAM_CHOICES: usize = 6;
+
+/// And for the trellis, two choices in each.
+const fn trellis_choices(half_width: u32) -> usize {
+    2 * half_width as usize + 2
+}
+
+/// The floats of a cost row.
+const fn row(half_width: u32) -> usize {
+    2 * (2 * half_width as usize + 2)
+}
 
 /// Which search.
 #[derive(Clone, Copy, Debug, PartialEq, Eq, Hash)]
@@ -27,6 +36,20 @@ pub enum Search {
     Beam,
     /// Finds a choice of least cost among those of its band.
     Trellis,
+    /// The trellis by another walk, a check on the first: on every input the same answer, refusal and room (proved), more slowly.
+    Unfactored,
+}
+
+impl Search {
+    /// Its number in C.
+    pub(crate) fn number(self) -> u32 {
+        match self {
+            Search::Greedy => 0,
+            Search::Beam => 1,
+            Search::Trellis => 2,
+            Search::Unfactored => 3,
+        }
+    }
 }
 
 /// A block's place in the format.
@@ -46,7 +69,7 @@ pub struct Shape {
     pub predicted: u8,
 }
 
-/// What a search weighs distortion and bits by.
+/// What a caller sets: what a search weighs distortion and bits by, and how wide it looks.
 ///
 /// Fields may be added: name those that you set, and take the others from [`Settings::default`].
 ///
@@ -64,20 +87,24 @@ pub struct Settings {
     pub penalty: f32,
     /// The distance, 0 to 25.
     pub distance: f32,
+    /// The half-width of the trellis's band, 1 to 12: after each position the count of nonzero levels may differ by so many from
+    /// the input's. On the same block a wider band never costs more, and answers wherever a narrower one did. Greedy and beam have
+    /// no band, and answer the same for every value in range.
+    pub half_width: u32,
 }
 
 impl Settings {
-    /// Settings with a channel weight and a penalty of 1.
+    /// Settings with a channel weight and a penalty of 1, and a half-width of 6.
     pub fn new(lambda: f32, distance: f32) -> Settings {
         Settings { lambda, distance, ..Settings::default() }
     }
 }
 
-/// 1 throughout: distortion and restored levels at their own price, and distance 1. Lambda is the encoder's own (see
+/// Distortion and restored levels at their own price, distance 1, and a half-width of 6. Lambda is the encoder's own (see
 /// [`lambda`](crate::lambda())); 1 stands for none.
 impl Default for Settings {
     fn default() -> Settings {
-        Settings { channel_weight: 1.0, lambda: 1.0, penalty: 1.0, distance: 1.0 }
+        Settings { channel_weight: 1.0, lambda: 1.0, penalty: 1.0, distance: 1.0, half_width: 6 }
     }
 }
 
@@ -112,7 +139,7 @@ impl Default for Bias {
 pub struct Block<'a> {
     /// Its place in the format.
     pub shape: Shape,
-    /// What distortion and bits are weighed by.
+    /// What distortion and bits are weighed by, and the half-width of the band.
     pub settings: Settings,
     /// The channel's bias.
     pub bias: Bias,
@@ -152,15 +179,17 @@ pub struct Room {
     row_b: Vec<f32>,
     /// All of it is cleared, so that what is not lent stays so.
     cleared: bool,
+    /// Where the list of a group is gathered.
+    pub(crate) lists: Lists,
 }
 
 impl Room {
-    /// Room for every block and search.
+    /// Room for every block, search and half-width.
     pub fn new() -> Room {
         Room::with_window(LONGEST)
     }
 
-    /// Room for every search on blocks of a number of covered blocks, a power of two up to 1,024.
+    /// Room for every search and half-width on blocks of a number of covered blocks, a power of two up to 1,024.
     ///
     /// # Errors
     ///
@@ -171,12 +200,17 @@ impl Room {
 
     /// Room from parts, of any length. Too small a room is refused by the search. It is lent whole until a search has cleared it.
     pub fn from_parts(choices: Vec<u8>, row_a: Vec<f32>, row_b: Vec<f32>) -> Room {
-        Room { choices, row_a, row_b, cleared: false }
+        Room { choices, row_a, row_b, cleared: false, lists: Lists::default() }
     }
 
     fn with_window(length: usize) -> Room {
-        let row = vec![f32::INFINITY; ROW];
-        Room { choices: vec![255; CHOICES * length], row_a: row.clone(), row_b: row, cleared: true }
+        Room::cleared_of(needed(Search::Trellis, length, WIDEST))
+    }
+
+    /// Cleared, of so many choice bytes and so many floats in each row.
+    pub(crate) fn cleared_of((bytes, floats): (usize, usize)) -> Room {
+        let row = vec![f32::INFINITY; floats];
+        Room { choices: vec![255; bytes], row_a: row.clone(), row_b: row, cleared: true, lists: Lists::default() }
     }
 
     /// The choice bytes.
@@ -189,18 +223,40 @@ impl Room {
         (&self.row_a, &self.row_b)
     }
 
-    /// What a search needs on a block; all of the room where that would leave a part uncleared, or where there is no such block.
-    fn lend(&mut self, search: Search, shape: Shape) -> (&mut [u8], &mut [f32], &mut [f32]) {
-        let Room { choices, row_a, row_b, cleared } = self;
-        let window = shape.cx.checked_mul(shape.cy).filter(|_| *cleared).and_then(|covered| window_len(covered).ok());
-        let (bytes, floats) = match (window, search) {
-            (None, _) => (usize::MAX, usize::MAX),
-            (Some(_), Search::Greedy) => (0, 0),
-            (Some(window), Search::Beam) => (BEAM_CHOICES * window.length, 0),
-            (Some(window), Search::Trellis) => (CHOICES * window.length, ROW),
-        };
+    /// The front that is needed, so many choice bytes and so many floats of each row; all of the room where that would leave a part
+    /// uncleared, or where the need is not known.
+    pub(crate) fn lend(&mut self, need: Option<(usize, usize)>) -> (&mut [u8], &mut [f32], &mut [f32]) {
+        let Room { choices, row_a, row_b, cleared, .. } = self;
+        let (bytes, floats) = need.filter(|_| *cleared).unwrap_or((usize::MAX, usize::MAX));
         (front(choices, bytes), front(row_a, floats), front(row_b, floats))
     }
+
+    /// Takes note of what a search that was lent a part has left.
+    pub(crate) fn take_back(&mut self, search: Search, reply: Result<(), Refusal>) {
+        self.cleared = match (reply, search) {
+            // all that was lent is cleared, and what was not was so before
+            (Ok(()), Search::Beam | Search::Trellis | Search::Unfactored)
+            | (Err(Refusal::BandInfinite | Refusal::PathsInfinite), _) => true,
+            (Err(Refusal::Unknown), _) => false,
+            // nothing has changed
+            _ => self.cleared,
+        };
+    }
+}
+
+/// The choice bytes, and the floats of each row, that a search needs on a window.
+pub(crate) fn needed(search: Search, window: usize, half_width: u32) -> (usize, usize) {
+    match search {
+        Search::Greedy => (0, 0),
+        Search::Beam => (BEAM_CHOICES * window, 0),
+        Search::Trellis | Search::Unfactored => (trellis_choices(half_width) * window, row(half_width)),
+    }
+}
+
+/// What a search needs on a block, where there is such a block and such a half-width.
+pub(crate) fn needed_by(search: Search, cx: u32, cy: u32, half_width: u32) -> Option<(usize, usize)> {
+    let covered = cx.checked_mul(cy).filter(|_| (1..=WIDEST).contains(&half_width))?;
+    Some(needed(search, window_len(covered).ok()?.length, half_width))
 }
 
 /// The first of a list, as many as there are.
@@ -242,6 +298,13 @@ pub struct Answer {
     pub count: u32,
 }
 
+impl Answer {
+    /// From what a search wrote; greedy writes no cost.
+    pub(crate) fn of(search: Search, cost: f32, count: u32) -> Answer {
+        Answer { cost: if search == Search::Greedy { None } else { Some(cost) }, count }
+    }
+}
+
 /// Re-picks the levels of a block, in place.
 ///
 /// A refused block keeps every level. After every refusal but 15 and 16 the room is as it was too.
@@ -253,10 +316,10 @@ pub struct Answer {
 /// - of the book: [`MapLength`](Refusal::MapLength), [`BookLength`](Refusal::BookLength), [`MapEntry`](Refusal::MapEntry),
 ///   [`Configuration`](Refusal::Configuration), [`SymbolPrice`](Refusal::SymbolPrice), [`ReadyPrice`](Refusal::ReadyPrice);
 /// - of the block: [`BlockSide`](Refusal::BlockSide), [`BlockLength`](Refusal::BlockLength), [`Strategy`](Refusal::Strategy),
-///   [`Sides`](Refusal::Sides), [`Settings`](Refusal::Settings), [`Scan`](Refusal::Scan), [`Level`](Refusal::Level),
-///   [`Ideal`](Refusal::Ideal);
+///   [`Sides`](Refusal::Sides), [`Settings`](Refusal::Settings), [`HalfWidth`](Refusal::HalfWidth), [`Scan`](Refusal::Scan),
+///   [`Level`](Refusal::Level), [`Ideal`](Refusal::Ideal);
 /// - [`Room`](Refusal::Room);
-/// - what the search may find: [`BandInfinite`](Refusal::BandInfinite) the trellis, [`PathsInfinite`](Refusal::PathsInfinite)
+/// - what the search may find: [`BandInfinite`](Refusal::BandInfinite) the trellis by either walk, [`PathsInfinite`](Refusal::PathsInfinite)
 ///   the beam, greedy nothing.
 ///
 /// # Examples
@@ -270,7 +333,7 @@ pub struct Answer {
 /// let scan: Vec<u32> = (0..64).collect();
 /// let block = Block {
 ///     shape: Shape { cx: 1, cy: 1, strategy: 0, channel: 1, qf_hi: false, predicted: 0 },
-///     settings: Settings { channel_weight: 1.0, lambda: 0.5, penalty: 1.0, distance: 1.0 },
+///     settings: Settings { lambda: 0.5, ..Settings::default() },
 ///     bias: Bias::new(0.9),
 ///     scale: 1.0,
 ///     scan: &scan,
@@ -287,19 +350,14 @@ pub struct Answer {
 /// # Ok::<(), rdoq::Refusal>(())
 /// ```
 pub fn rdoq_block(search: Search, book: &Book, block: &Block<'_>, levels: &mut [i32], room: &mut Room) -> Result<Answer, Refusal> {
-    let which = match search {
-        Search::Greedy => 0,
-        Search::Beam => 1,
-        Search::Trellis => 2,
-    };
     let (map, configs, symbols, ready) = (book.map(), book.configs(), book.symbols(), book.ready());
     let Block { shape, settings, bias, scale, scan, source, inv_qm } = *block;
-    let (choices, row_a, row_b) = room.lend(search, shape);
+    let (choices, row_a, row_b) = room.lend(needed_by(search, shape.cx, shape.cy, settings.half_width));
     let (mut cost, mut count) = (f32::NAN, 0);
     // SAFETY: each pointer comes with the length of its slice. What is written is borrowed mutably, so it overlaps nothing else.
     let reply = answered(unsafe {
         ffi::rdoq_block(
-            which,
+            search.number(),
             book.clusters(),
             map.as_ptr(),
             map.len(),
@@ -319,6 +377,7 @@ pub fn rdoq_block(search: Search, book: &Book, block: &Block<'_>, levels: &mut [
             settings.lambda,
             settings.penalty,
             settings.distance,
+            settings.half_width,
             bias.one,
             bias.numerator,
             scale,
@@ -340,53 +399,54 @@ pub fn rdoq_block(search: Search, book: &Book, block: &Block<'_>, levels: &mut [
             &mut count,
         )
     });
-    room.cleared = match (reply, search) {
-        // all that was lent is cleared, and what was not was so before
-        (Ok(()), Search::Beam | Search::Trellis) | (Err(Refusal::BandInfinite | Refusal::PathsInfinite), _) => true,
-        (Err(Refusal::Unknown), _) => false,
-        // nothing has changed
-        _ => room.cleared,
-    };
+    room.take_back(search, reply);
     reply?;
-    let cost = match search {
-        Search::Greedy => None,
-        Search::Beam | Search::Trellis => Some(cost),
-    };
-    Ok(Answer { cost, count })
+    Ok(Answer::of(search, cost, count))
 }
 
 #[cfg(test)]
 mod tests {
-    use super::{Room, Search, Shape};
+    use super::{needed_by, Room, Search};
     use alloc::vec;
 
-    fn lent(room: &mut Room, search: Search, cx: u32, cy: u32) -> (usize, usize, usize) {
-        let shape = Shape { cx, cy, strategy: 0, channel: 1, qf_hi: false, predicted: 0 };
-        let (choices, row_a, row_b) = room.lend(search, shape);
+    fn lent_with(room: &mut Room, search: Search, cx: u32, cy: u32, half_width: u32) -> (usize, usize, usize) {
+        let (choices, row_a, row_b) = room.lend(needed_by(search, cx, cy, half_width));
         (choices.len(), row_a.len(), row_b.len())
+    }
+
+    fn lent(room: &mut Room, search: Search, cx: u32, cy: u32) -> (usize, usize, usize) {
+        lent_with(room, search, cx, cy, 6)
     }
 
     #[test]
     fn a_search_is_lent_what_it_needs() {
         let mut room = Room::new();
         for (cx, cy, window) in [(1, 1, 63), (1, 2, 126), (2, 2, 252), (4, 4, 1_008), (4, 8, 1_024), (32, 32, 1_024)] {
-            assert_eq!(lent(&mut room, Search::Greedy, cx, cy), (0, 0, 0));
-            assert_eq!(lent(&mut room, Search::Beam, cx, cy), (6 * window, 0, 0));
-            assert_eq!(lent(&mut room, Search::Trellis, cx, cy), (28 * window, 28, 28));
+            for (half_width, bytes, row) in [(1, 4, 8), (2, 6, 12), (6, 14, 28), (9, 20, 40), (12, 26, 52)] {
+                assert_eq!(lent_with(&mut room, Search::Greedy, cx, cy, half_width), (0, 0, 0));
+                assert_eq!(lent_with(&mut room, Search::Beam, cx, cy, half_width), (6 * window, 0, 0));
+                for search in [Search::Trellis, Search::Unfactored] {
+                    assert_eq!(lent_with(&mut room, search, cx, cy, half_width), (bytes * window, row, row));
+                }
+            }
         }
         // no block, so that the search refuses the sides
         for (cx, cy) in [(0, 1), (3, 1), (64, 64), (65_536, 65_536)] {
-            assert_eq!(lent(&mut room, Search::Beam, cx, cy), (28 * 1_024, 28, 28));
+            assert_eq!(lent(&mut room, Search::Beam, cx, cy), (26_624, 52, 52));
+        }
+        // no half-width, so that the search refuses it
+        for half_width in [0, 13, 262, u32::MAX] {
+            assert_eq!(lent_with(&mut room, Search::Trellis, 1, 1, half_width), (26_624, 52, 52));
         }
         // too small a room is lent whole
         let mut small = Room::for_covered(1).unwrap();
-        assert_eq!(lent(&mut small, Search::Trellis, 2, 2), (28 * 63, 28, 28));
+        assert_eq!(lent_with(&mut small, Search::Trellis, 2, 2, 12), (26 * 63, 52, 52));
     }
 
     #[test]
     fn what_is_not_cleared_is_lent_whole() {
         let mut room = Room::from_parts(vec![255; 2_000], vec![0.0; 30], vec![0.0; 29]);
-        for search in [Search::Greedy, Search::Beam, Search::Trellis] {
+        for search in [Search::Greedy, Search::Beam, Search::Trellis, Search::Unfactored] {
             assert_eq!(lent(&mut room, search, 1, 1), (2_000, 30, 29));
         }
     }

@@ -2,7 +2,8 @@
 use rdoq::{
     candidates, chroma_weight, distortion_weight, fine_block_context, fine_non_zero_context, fine_zero_density_contexts_offset,
     lambda, level, pack_signed, uint_encode_with_config, window_len, zero_density_context, zero_density_context_8x8, Bias, Book,
-    BookBuilder, Config, Pricing, Refusal, Split, Window, CONTEXTS, READY, STACK_BYTES, STORE_RECORD, STORE_RUNS, SYMBOLS,
+    BookBuilder, Config, PrefixCode, Pricing, Refusal, Split, Window, CONTEXTS, READY, STACK_BYTES, STORE_RECORD, STORE_RUNS,
+    SYMBOLS,
 };
 use std::collections::HashSet;
 
@@ -330,4 +331,42 @@ fn the_constants_are_the_headers() {
     ] {
         assert!(header.contains(&format!("#define RDOQ_{name} {value}u")), "{name} is not {value} in the header");
     }
+}
+
+#[test]
+fn the_library_is_of_this_version() {
+    let (major, minor, patch) = rdoq::version();
+    assert_eq!(format!("{major}.{minor}.{patch}"), env!("CARGO_PKG_VERSION"));
+}
+
+#[test]
+fn codes_of_each_cluster_are_one_list() {
+    let two = || BookBuilder::new(vec![0; CONTEXTS], &[[4, 2, 0], [5, 2, 2]]);
+    let (mut depths, mut freqs) = (vec![0; 2 * SYMBOLS], vec![0; 2 * SYMBOLS]);
+    depths[..3].copy_from_slice(&[1, 2, 2]);
+    depths[SYMBOLS + 1] = 4;
+    freqs[..2].copy_from_slice(&[4_000, 96]);
+    freqs[SYMBOLS..].fill(32);
+    let short = PrefixCode { depths: &[1, 2, 2], single_symbol: false };
+    let single = PrefixCode { depths: &[0, 4], single_symbol: true };
+    for pricing in [Pricing::Lenient, Pricing::Strict] {
+        let whole = two().prefix_code(&depths, &[0, 1], pricing).unwrap().fill();
+        assert_eq!(two().prefix_clusters(&[short, single], pricing).unwrap().fill(), whole);
+    }
+    let whole = two().ans_code(&freqs).unwrap().fill();
+    assert_eq!(two().ans_clusters(&[&[4_000, 96], &[32; SYMBOLS]]).unwrap().fill(), whole);
+
+    // not a list for each cluster, or too long a list; the clusters are asked for first, a frequency last
+    let long = PrefixCode { depths: &[1; 2 * SYMBOLS], single_symbol: false };
+    for codes in [&[][..], &[short], &[long], &[short, long], &[short, single, single]] {
+        assert_eq!(two().prefix_clusters(codes, Pricing::Lenient).unwrap_err(), Refusal::BookLength);
+    }
+    let (few, twice, many) = (&[1_u16][..], &[1; 2 * SYMBOLS][..], &[4_097; SYMBOLS + 1][..]);
+    for lists in [&[][..], &[twice], &[few, many], &[few, few, few]] {
+        assert_eq!(two().ans_clusters(lists).unwrap_err(), Refusal::BookLength);
+    }
+    assert_eq!(two().ans_clusters(&[&[1], &[4_097]]).unwrap_err(), Refusal::Frequency);
+    let none = BookBuilder::new(vec![0; CONTEXTS], &[]);
+    assert_eq!(none.clone().prefix_clusters(&[short], Pricing::Lenient).unwrap_err(), Refusal::MapLength);
+    assert_eq!(none.ans_clusters(&[]).unwrap_err(), Refusal::MapLength);
 }

@@ -5,7 +5,7 @@ use rdoq::{
 };
 use std::thread;
 
-const SEARCHES: [Search; 3] = [Search::Greedy, Search::Beam, Search::Trellis];
+const SEARCHES: [Search; 4] = [Search::Greedy, Search::Beam, Search::Trellis, Search::Unfactored];
 const LAMBDA: f32 = 0.5;
 
 fn book(price: f32) -> Book {
@@ -32,7 +32,7 @@ impl Given {
         Given {
             book: book(1.0),
             shape: Shape { cx: 1, cy: 1, strategy: 0, channel: 1, qf_hi: false, predicted: 0 },
-            settings: Settings { channel_weight: 1.0, lambda: LAMBDA, penalty: 1.0, distance: 1.0 },
+            settings: Settings { lambda: LAMBDA, ..Settings::default() },
             bias: Bias::new(0.9),
             scale: 1.0,
             scan: (0..64).collect(),
@@ -119,7 +119,12 @@ fn infinite_prices() {
     let mut room = used_room();
     assert_eq!(given.run(Search::Greedy, &mut room).0.map(told), Ok((None, 0)));
     assert_eq!(room, used_room());
-    for (search, refusal) in [(Search::Beam, Refusal::PathsInfinite), (Search::Trellis, Refusal::BandInfinite)] {
+    let refusals = [
+        (Search::Beam, Refusal::PathsInfinite),
+        (Search::Trellis, Refusal::BandInfinite),
+        (Search::Unfactored, Refusal::BandInfinite),
+    ];
+    for (search, refusal) in refusals {
         given.levels[5] = 3;
         given.source[5] = 3.0;
         let mut room = used_room();
@@ -177,7 +182,7 @@ fn levels_outside_the_window_stay() {
 
 #[test]
 fn an_answer_clears_the_room() {
-    for search in [Search::Beam, Search::Trellis] {
+    for search in [Search::Beam, Search::Trellis, Search::Unfactored] {
         let mut room = used_room();
         assert!(Given::seeded(1).run(search, &mut room).0.is_ok());
         assert!(is_cleared(&room), "{search:?}");
@@ -252,6 +257,13 @@ fn wrong_blocks_are_refused() {
     but(|g| g.settings.distance = 25.5).refused(Refusal::Settings);
     but(|g| g.bias.one = -0.5).refused(Refusal::Settings);
     but(|g| g.bias.numerator = 0.15).refused(Refusal::Settings);
+    for half_width in [0, 13, 262, u32::MAX] {
+        but(|g| g.settings.half_width = half_width).refused(Refusal::HalfWidth);
+        // 26 comes straight after 10 and before 11.
+        but(|g| (g.settings.half_width, g.settings.lambda) = (half_width, 0.0)).refused(Refusal::Settings);
+        but(|g| (g.settings.half_width, g.bias.one) = (half_width, 3.0)).refused(Refusal::Settings);
+        but(|g| (g.settings.half_width, g.scan[3]) = (half_width, 4)).refused(Refusal::HalfWidth);
+    }
     but(|g| g.scan[3] = 4).refused(Refusal::Scan);
     but(|g| g.scan[3] = u32::MAX).refused(Refusal::Scan);
     but(|g| g.levels[63] = 32_768).refused(Refusal::Level);
@@ -260,15 +272,24 @@ fn wrong_blocks_are_refused() {
 
 #[test]
 fn the_room_that_each_search_needs() {
-    let given = Given::seeded(5);
-    let run = |search, choices, a, b| given.run(search, &mut Room::from_parts(vec![9; choices], vec![1.0; a], vec![1.0; b])).0;
-    assert!(run(Search::Greedy, 0, 0, 0).is_ok());
-    assert!(run(Search::Beam, 6 * 63, 0, 0).is_ok());
-    assert_eq!(run(Search::Beam, 6 * 63 - 1, 28, 28), Err(Refusal::Room));
-    assert!(run(Search::Trellis, 28 * 63, 28, 28).is_ok());
-    assert_eq!(run(Search::Trellis, 28 * 63 - 1, 28, 28), Err(Refusal::Room));
-    assert_eq!(run(Search::Trellis, 28 * 63, 27, 28), Err(Refusal::Room));
-    assert_eq!(run(Search::Trellis, 28 * 63, 28, 27), Err(Refusal::Room));
+    let mut given = Given::seeded(5);
+    for (half_width, bytes, row) in [(1, 4, 8), (2, 6, 12), (3, 8, 16), (6, 14, 28), (9, 20, 40), (12, 26, 52)] {
+        given.settings.half_width = half_width;
+        let run = |search, choices, a, b| given.run(search, &mut Room::from_parts(vec![9; choices], vec![1.0; a], vec![1.0; b])).0;
+        assert!(run(Search::Greedy, 0, 0, 0).is_ok());
+        assert!(run(Search::Beam, 6 * 63, 0, 0).is_ok());
+        assert_eq!(run(Search::Beam, 6 * 63 - 1, 52, 52), Err(Refusal::Room));
+        for search in [Search::Trellis, Search::Unfactored] {
+            // two choices in a byte; with twice the room the answer is the same
+            let answer = run(search, bytes * 63, row, row);
+            assert!(answer.is_ok());
+            assert_eq!(run(search, 2 * bytes * 63, row, row), answer);
+            assert_eq!(run(search, bytes * 63 - 1, row, row), Err(Refusal::Room));
+            assert_eq!(run(search, bytes * 63, row - 1, row), Err(Refusal::Room));
+            assert_eq!(run(search, bytes * 63, row, row - 1), Err(Refusal::Room));
+        }
+    }
+    given.settings.half_width = 6;
     let mut small = Room::from_parts(vec![9; 100], vec![1.0; 28], vec![1.0; 28]);
     let (_, levels) = given.run(Search::Trellis, &mut small);
     assert_eq!(levels, given.levels);
@@ -286,7 +307,7 @@ fn a_room_by_covered_blocks_serves_a_large_block() {
     given.levels = vec![0; 2_048];
     for search in SEARCHES {
         let mut room = Room::for_covered(32).unwrap();
-        assert_eq!(room.choices().len(), 28 * 1_024);
+        assert_eq!(room.choices().len(), 26_624);
         assert_eq!(given.run(search, &mut room).0.unwrap().count, 0);
         assert!(is_cleared(&room));
     }
@@ -327,6 +348,79 @@ fn the_trellis_costs_no_more_than_the_beam() {
     assert!(compared > 10, "{compared}");
 }
 
+/// Tokens that cost nothing, so that ties abound, and then a seed's own prices.
+#[test]
+fn the_two_walks_answer_the_same() {
+    let mut room = Room::new();
+    let mut both = |given: &Given| {
+        let trellis = given.run(Search::Trellis, &mut room);
+        assert_eq!(given.run(Search::Unfactored, &mut room), trellis);
+        trellis.0.is_ok()
+    };
+    for seed in 0..40 {
+        let mut given = Given::seeded(seed);
+        for half_width in 1..=12 {
+            given.settings.half_width = half_width;
+            assert!(both(&given));
+        }
+        given.book = book(0.0);
+        assert!(both(&given));
+        given.book = book(f32::INFINITY);
+        assert!(!both(&given));
+    }
+}
+
+#[test]
+fn a_wider_band_never_costs_more() {
+    let (mut room, mut fell) = (Room::new(), 0);
+    for seed in 0..40 {
+        let mut given = Given::seeded(seed);
+        // dear enough that many levels go
+        given.settings.lambda *= 4.0;
+        let mut cost_with = |half_width| {
+            given.settings.half_width = half_width;
+            given.run(Search::Trellis, &mut room).0.unwrap().cost.unwrap()
+        };
+        let costs: Vec<f32> = (1..=12).map(&mut cost_with).collect();
+        assert!(costs.windows(2).all(|two| two[1] <= two[0]), "seed {seed}: {costs:?}");
+        fell += usize::from(costs[11] < costs[5] && costs[5] < costs[0]);
+    }
+    assert!(fell > 10, "{fell}");
+}
+
+#[test]
+fn greedy_and_beam_have_no_band() {
+    let mut room = Room::new();
+    for seed in 0..40 {
+        let mut given = Given::seeded(seed);
+        for search in [Search::Greedy, Search::Beam] {
+            let first = given.run(search, &mut room);
+            for half_width in 1..=12 {
+                given.settings.half_width = half_width;
+                assert_eq!(given.run(search, &mut room), first, "{search:?}, half-width {half_width}");
+            }
+        }
+    }
+}
+
+#[test]
+fn each_half_width_lets_one_more_level_go() {
+    // Thirty ones at ideals of 0.5. Every token costs 100, those of zeros too, and none is due once nothing remains: so the last ones
+    // should go, and as many go as the band lets.
+    let mut given = Given::zero();
+    given.settings.lambda = 100.0;
+    given.source[1..31].fill(0.5);
+    given.levels[1..31].fill(1);
+    for half_width in 1..=12 {
+        given.settings.half_width = half_width;
+        let (reply, levels) = given.run(Search::Trellis, &mut Room::new());
+        let kept = 30 - half_width as usize;
+        assert_eq!(reply.unwrap().count as usize, kept);
+        let due: Vec<i32> = (0..64).map(|at| i32::from((1..=kept).contains(&at))).collect();
+        assert_eq!(levels, due);
+    }
+}
+
 #[test]
 fn calls_at_once_answer_the_same() {
     let given: Vec<Given> = (0..16).map(Given::seeded).collect();
@@ -334,7 +428,7 @@ fn calls_at_once_answer_the_same() {
         |room: &mut Room| -> Vec<_> { given.iter().flat_map(|g| SEARCHES.map(|search| g.run(search, room))).collect::<Vec<_>>() };
     let alone = one_by_one(&mut Room::new());
     assert!(
-        alone.iter().zip(given.iter().flat_map(|g| [g; 3])).any(|((_, after), g)| *after != g.levels),
+        alone.iter().zip(given.iter().flat_map(|g| [g; SEARCHES.len()])).any(|((_, after), g)| *after != g.levels),
         "some search moves a level"
     );
     thread::scope(|scope| {
@@ -437,7 +531,7 @@ fn a_small_stack_serves_every_size() {
         given.levels = given.levels.iter().copied().cycle().take(size).collect();
         let answers = move || SEARCHES.map(|search| given.run(search, &mut Room::new()).0.is_ok());
         let thread = thread::Builder::new().stack_size(SMALL_STACK).spawn(answers).unwrap();
-        assert_eq!(thread.join().unwrap(), [true; 3], "{side}");
+        assert_eq!(thread.join().unwrap(), [true; SEARCHES.len()], "{side}");
     }
 }
 
@@ -445,7 +539,7 @@ fn a_small_stack_serves_every_size() {
 fn debug_says_how_many_and_not_each() {
     let given = Given::zero();
     assert_eq!(format!("{:?}", given.book), "Book { clusters: 1, map: [14850], configs: [3], symbols: [128], ready: [256] }");
-    assert_eq!(format!("{:?}", Room::new()), "Room { choices: [28672], row_a: [28], row_b: [28] }");
+    assert_eq!(format!("{:?}", Room::new()), "Room { choices: [26624], row_a: [52], row_b: [52] }");
     let builder = BookBuilder::new(vec![0; CONTEXTS], &[[4, 2, 0]]);
     assert_eq!(format!("{builder:?}"), "BookBuilder { clusters: 1, map: [14850], configs: [3], symbols: [0] }");
     let Given { shape, settings, bias, scale, scan, source, inv_qm, .. } = given;

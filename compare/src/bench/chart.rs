@@ -1,7 +1,6 @@
-//! The ratios to the Rust as a chart: a panel for each search, a group of bars for each size, a bar for each density.
+//! The ratios to the Rust as a chart: a panel for each search that has a goal, a group of bars for each size, a bar for each density.
 
-use crate::data::SEARCHES;
-use crate::goals::SEARCH_GOAL;
+use crate::goals::{HELD, SEARCH_GOAL};
 use crate::inputs::{DENSITIES, SIZES};
 use crate::measure::{Results, SearchCosts};
 use crate::show::whole;
@@ -20,7 +19,8 @@ const GROUP: f64 = (PANEL - 16.0) / 5.0;
 const BAR: f64 = 14.0;
 
 pub fn chart(results: &Results) -> String {
-    let most = results.searches.iter().map(|costs| costs.ratio()).fold(1.5, f64::max);
+    let held = results.searches.iter().filter(|costs| HELD.contains(&costs.search));
+    let most = held.map(|costs| costs.ratio()).fold(1.5, f64::max);
     // Room for the numbers over the highest bar.
     let scale = Scale((2.0 * most + 0.4).ceil() / 2.0);
     let mut out = format!(
@@ -72,7 +72,7 @@ impl Scale {
 /// The bars, and the numbers over them, which are drawn after the goal's line.
 fn bars(results: &Results, scale: &Scale) -> (String, String) {
     let (mut out, mut numbers) = (String::new(), String::new());
-    for (panel, search) in SEARCHES.into_iter().enumerate() {
+    for (panel, search) in HELD.into_iter().enumerate() {
         let left = LEFT + PANEL * panel as f64;
         out += &text(left + PANEL / 2.0, BOTTOM + 40.0, "text-anchor=\"middle\" font-weight=\"bold\"", &format!("{search:?}").to_lowercase());
         if panel > 0 {

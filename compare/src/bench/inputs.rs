@@ -1,6 +1,6 @@
 //! The books and blocks that are measured on. Each is named by its numbers, so that both sides, and a child process, get the same.
 
-use crate::data::{strategies, window, Block, Book, Search};
+use crate::data::{row_floats, strategies, trellis_bytes, window, Block, Book, Search, HALF_WIDTH};
 use crate::entropy::token::{uint_encode_with_config, HybridUintConfig};
 use crate::random::Random;
 use crate::scans;
@@ -20,12 +20,32 @@ pub const CONFIGS: [[u8; 3]; 6] = [[4, 2, 0], [6, 2, 0], [4, 3, 0], [4, 2, 1], [
 /// Clusters of the book that the searches run on, of the first configuration.
 pub const SEARCHED: usize = 8;
 
-/// The choice bytes, and the floats in each row, that a search needs.
+/// Half-widths of the trellis's band, and the sizes at which they are measured.
+pub const WIDTHS: [u32; 6] = [1, 2, 3, 6, 9, 12];
+pub const WIDE_SIZES: [usize; 3] = [1, 4, 16];
+
+/// Covered blocks of the small product, and how many blocks of that size are searched in a round.
+pub const SMALL_SIZES: [(usize, usize); 2] = [(1, 64), (2, 32)];
+
+/// The choice bytes, and the floats in each row, that a search needs with the first half-width.
 pub fn needed(search: Search, c: usize) -> (usize, usize) {
+    needed_with(search, c, HALF_WIDTH)
+}
+
+pub fn needed_with(search: Search, c: usize, half_width: u32) -> (usize, usize) {
+    needed_on(search, window(c).0, half_width)
+}
+
+/// And of the small product.
+pub fn needed_small(search: Search) -> (usize, usize) {
+    needed_on(search, 32, HALF_WIDTH)
+}
+
+fn needed_on(search: Search, window: usize, half_width: u32) -> (usize, usize) {
     match search {
         Search::Greedy => (0, 0),
-        Search::Beam => (6 * window(c).0, 0),
-        Search::Trellis => (28 * window(c).0, 28),
+        Search::Beam => (6 * window, 0),
+        Search::Trellis | Search::Unfactored => (trellis_bytes(half_width) as usize * window, row_floats(half_width) as usize),
     }
 }
 
@@ -63,7 +83,7 @@ fn zeros(c: usize) -> Block {
     let side = 1u32 << (c.ilog2() / 2);
     Block {
         cx: side, cy: c as u32 / side, strategy: strategies(c)[0], channel: 1, quant_class: false, predicted: 20, channel_weight: 1.0, lambda: 0.25,
-        penalty: 1.5, distance: 1.0, one: 0.945, numerator: 0.145, scale: 1.0, choices: 0, rows: [0; 2], levels: vec![0; n],
+        penalty: 1.5, distance: 1.0, half_width: HALF_WIDTH, one: 0.945, numerator: 0.145, scale: 1.0, choices: 0, rows: [0; 2], levels: vec![0; n],
         scan: scans::natural(side as usize, c / side as usize), source: vec![0.0; n], inverse: vec![1.0; n],
     }
 }
@@ -82,7 +102,7 @@ pub fn blocks(c: usize, density: usize) -> Vec<Block> {
         }
         block
     };
-    let count = SIZES.iter().find(|size| size.0 == c).map_or(1, |size| size.1);
+    let count = SIZES.iter().chain(&SMALL_SIZES).find(|size| size.0 == c).map_or(1, |size| size.1);
     (0..count).map(|_| drawn()).collect()
 }
 

@@ -8,6 +8,7 @@
 mod chart;
 mod count;
 mod goals;
+mod group_list;
 mod growth;
 mod inputs;
 mod library;
@@ -18,6 +19,7 @@ mod store;
 mod tally;
 mod tables;
 mod things;
+mod tokens;
 
 #[path = "../data.rs"]
 #[allow(dead_code)]
@@ -103,8 +105,21 @@ fn report(how: &str, rooms: &str, results: &Results, unit: Unit) -> String {
     text.trim_end().to_string()
 }
 
+/// A group's list by one call, block by block and by the Rust: the levels must be the same.
+fn lists_compared() {
+    for kind in 0..group_list::KINDS.len() {
+        let levels = group_list::WAYS.map(|way| {
+            let mut group = group_list::Group::of(way, kind, Search::Trellis as usize, 8);
+            assert_eq!(group.round(), 0);
+            group.levels().to_vec()
+        });
+        assert!(levels[0] == levels[1] && levels[0] == levels[2], "a group of {}: the levels differ", group_list::KINDS[kind]);
+    }
+}
+
 /// Runs every search on both sides. The levels must be the same. Says which side's rooms are clear after trellis and beam.
 fn compared() -> &'static str {
+    lists_compared();
     let (mut port_clears, mut rust_clears) = (true, true);
     for search in SEARCHES {
         for (c, _) in SIZES {

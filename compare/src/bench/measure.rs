@@ -1,11 +1,13 @@
 //! All that is measured, in the order of the tables. A meter is the clock or callgrind.
 
 use crate::count::Counter;
-use crate::data::{Search, SEARCHES};
-use crate::inputs::{needed, CLUSTERS, CONFIGS, DENSITIES, SEARCHED, SIZES};
+use crate::data::{trellis_bytes, Search, SEARCHES, WIDEST};
+use crate::group_list;
+use crate::inputs::{needed, CLUSTERS, CONFIGS, DENSITIES, SEARCHED, SIZES, SMALL_SIZES, WIDE_SIZES, WIDTHS};
 use crate::store;
 use crate::tally::TOKENS;
 use crate::things::{Thing, Work};
+use crate::tokens::WAYS;
 use std::time::{Duration, Instant};
 
 /// A pass of a thing lasts about this long, and at least a round.
@@ -32,6 +34,53 @@ impl SearchCosts {
 
     pub fn ratio(&self) -> f64 {
         self.part() / self.rust
+    }
+}
+
+/// The trellis with a half-width of its band, less checks 1 to 6.
+pub struct WidthCosts {
+    pub half_width: u32,
+    pub c: usize,
+    pub part: f64,
+}
+
+/// The small product beside the first, on the same blocks, both less checks 1 to 6.
+pub struct SmallCosts {
+    pub search: Search,
+    pub c: usize,
+    pub density: usize,
+    pub first: f64,
+    pub small: f64,
+}
+
+/// A group's list: the whole call, its blocks one by one, the Rust's searches with its prediction, and one check of the book.
+pub struct GroupCosts {
+    pub kind: usize,
+    pub search: Search,
+    pub clusters: usize,
+    pub whole: f64,
+    pub each: f64,
+    pub rust: f64,
+    pub checks: f64,
+}
+
+impl GroupCosts {
+    fn blocks(&self) -> f64 {
+        group_list::Group::blocks(self.kind) as f64
+    }
+
+    /// A block's, besides the searches and one check of the book.
+    pub fn besides(&self) -> f64 {
+        (self.whole - self.each + (self.blocks() - 1.0) * self.checks) / self.blocks()
+    }
+
+    /// The whole call, a block.
+    pub fn block(&self) -> f64 {
+        self.whole / self.blocks()
+    }
+
+    pub fn ratio(&self) -> f64 {
+        self.whole / self.rust
     }
 }
 
@@ -71,8 +120,31 @@ pub struct TallyCosts {
     pub rust: f64,
 }
 
+/// The tokens of a block: the checks, then writing and reading by the port, and writing by the Rust.
+pub struct TokenCosts {
+    pub c: usize,
+    pub density: usize,
+    pub checks: f64,
+    pub write: f64,
+    pub read: f64,
+    pub rust: f64,
+}
+
+impl TokenCosts {
+    /// Writing less the checks, over the Rust's.
+    pub fn writing(&self) -> f64 {
+        (self.write - self.checks) / self.rust
+    }
+
+    /// Reading over writing, both less the checks.
+    pub fn reading(&self) -> f64 {
+        (self.read - self.checks) / (self.write - self.checks)
+    }
+}
+
 pub struct Results {
     pub searches: Vec<SearchCosts>,
+    pub widths: Vec<WidthCosts>,
     pub books: Vec<BookCosts>,
     pub blocks: Vec<BlockCosts>,
     pub clearing: Vec<ClearCosts>,
@@ -82,6 +154,9 @@ pub struct Results {
     /// A call on a store, in the order of the list in `store`.
     pub store: Vec<f64>,
     pub tally: TallyCosts,
+    pub tokens: Vec<TokenCosts>,
+    pub small: Vec<SmallCosts>,
+    pub groups: Vec<GroupCosts>,
 }
 
 pub enum Meter {
@@ -99,7 +174,20 @@ impl Meter {
     }
 
     pub fn all(&mut self) -> Results {
-        Results { searches: self.searches(), books: self.books(), blocks: self.blocks(), clearing: self.clearing(), lent: self.lent(), ans: self.ans(), store: self.store(), tally: self.tally() }
+        Results {
+            searches: self.searches(),
+            widths: self.widths(),
+            books: self.books(),
+            blocks: self.blocks(),
+            clearing: self.clearing(),
+            lent: self.lent(),
+            ans: self.ans(),
+            store: self.store(),
+            tally: self.tally(),
+            tokens: self.tokens(),
+            small: self.small(),
+            groups: self.groups(),
+        }
     }
 
     fn searches(&mut self) -> Vec<SearchCosts> {
@@ -113,6 +201,51 @@ impl Meter {
                     let [call, checks, rust] = self.by_turns(things);
                     rows.push(SearchCosts { search, c, density, call, checks, rust });
                 }
+            }
+        }
+        rows
+    }
+
+    fn small(&mut self) -> Vec<SmallCosts> {
+        eprintln!("the small product");
+        let mut rows = Vec::new();
+        for density in 0..DENSITIES.len() {
+            for (c, _) in SMALL_SIZES {
+                for search in SEARCHES {
+                    let book = Thing::Checks { clusters: SEARCHED, config: 0 };
+                    let things = [Thing::Call { search, c, density }, Thing::Small { search, c, density }, book];
+                    let [first, small, checks] = self.by_turns(things);
+                    rows.push(SmallCosts { search, c, density, first: first - checks, small: small - checks });
+                }
+            }
+        }
+        rows
+    }
+
+    fn groups(&mut self) -> Vec<GroupCosts> {
+        eprintln!("groups");
+        let mut rows = Vec::new();
+        for kind in 0..group_list::KINDS.len() {
+            for clusters in group_list::CLUSTERS {
+                for search in [Search::Greedy, Search::Beam, Search::Trellis] {
+                    let of = |way| Thing::Group { way, kind, search, clusters };
+                    let [whole, each, rust] = group_list::WAYS.map(of);
+                    let [whole, each, rust, checks] = self.by_turns([whole, each, rust, Thing::Checks { clusters, config: 0 }]);
+                    rows.push(GroupCosts { kind, search, clusters, whole, each, rust, checks });
+                }
+            }
+        }
+        rows
+    }
+
+    fn widths(&mut self) -> Vec<WidthCosts> {
+        eprintln!("half-widths");
+        let mut rows = Vec::new();
+        for half_width in WIDTHS {
+            for c in WIDE_SIZES {
+                let book = Thing::Checks { clusters: SEARCHED, config: 0 };
+                let [call, checks] = self.by_turns([Thing::Wide { half_width: half_width as usize, c }, book]);
+                rows.push(WidthCosts { half_width, c, part: call - checks });
             }
         }
         rows
@@ -175,11 +308,25 @@ impl Meter {
         TallyCosts { checks, token: (port - checks) / TOKENS as f64, rust: rust / TOKENS as f64 }
     }
 
+    fn tokens(&mut self) -> Vec<TokenCosts> {
+        eprintln!("tokens");
+        let mut rows = Vec::new();
+        for density in 0..DENSITIES.len() {
+            // The Rust's loop goes up to c = 256.
+            for (c, _) in &SIZES[..4] {
+                let [checks, write, read, rust] = self.by_turns(WAYS.map(|way| Thing::Tokens { c: *c, density, way }));
+                rows.push(TokenCosts { c: *c, density, checks, write, read, rust });
+            }
+        }
+        rows
+    }
+
     fn lent(&mut self) -> Vec<LentCosts> {
         let (choices, row) = needed(Search::Trellis, 1);
         let with = |choices, row| Thing::Settled { search: Search::Trellis, choices, row };
-        // The second makes the choices 28,672 bytes, which serve every block.
-        [0, 28672 - choices, 1 << 20, 4 << 20]
+        // The second makes the choices as many as serve every block and half-width.
+        let most = trellis_bytes(WIDEST) as usize * 1024;
+        [0, most - choices, 1 << 20, 4 << 20]
             .map(|surplus| {
                 // Of four bytes a float, in two rows.
                 let [choices, rows] = self.by_turns([with(choices + surplus, row), with(choices, row + surplus / 8)]);

@@ -1,8 +1,9 @@
 //! The tables of what was measured.
 
 use crate::data::{window, Search};
-use crate::inputs::{needed, CLUSTERS, CONFIGS, DENSITIES, SEARCHED};
-use crate::measure::{Results, SearchCosts, SURPLUS};
+use crate::goals::HELD;
+use crate::inputs::{needed, needed_small, CLUSTERS, CONFIGS, DENSITIES, SEARCHED};
+use crate::measure::{Results, SearchCosts, GroupCosts, SmallCosts, TokenCosts, SURPLUS};
 use crate::show::{cells, table, whole, Unit};
 use crate::store::CALLS;
 
@@ -14,14 +15,14 @@ pub fn config(at: usize) -> String {
 /// `rooms` says which side clears.
 pub fn all(results: &Results, unit: Unit, rooms: &str) -> String {
     let searches: String = (0..DENSITIES.len()).map(|density| searches(results, unit, density, rooms)).collect();
-    searches + &books(results, unit) + &blocks(results, unit) + &clearing(results, unit) + &share(results, unit) + &ans(results, unit) + &store(results, unit) + &tally(results, unit)
+    searches + &books(results, unit) + &blocks(results, unit) + &clearing(results, unit) + &share(results, unit) + &ans(results, unit) + &store(results, unit) + &tally(results, unit) + &tokens(results, unit) + &small(results, unit) + &groups(results, unit)
 }
 
 fn searches(results: &Results, unit: Unit, density: usize, rooms: &str) -> String {
     let text = if density == 0 {
         format!(
             "Search part: the whole call less checks 1 to 6 of its book ({SEARCHED} clusters, {}). The port is lent exactly the room \
-             that the search needs; greedy needs none.",
+             that the search needs; greedy needs none. Unfactored stands beside the Rust's own unfactored walk.",
             config(0)
         )
     } else {
@@ -121,7 +122,8 @@ fn share(results: &Results, unit: Unit) -> String {
             format!("{share:.2}"),
         ]
     };
-    let rows: Vec<_> = results.searches.iter().filter(|costs| costs.c == 1).map(row).collect();
+    let at_one = |costs: &&SearchCosts| costs.c == 1 && HELD.contains(&costs.search);
+    let rows: Vec<_> = results.searches.iter().filter(at_one).map(row).collect();
     let head = cells(&["Levels", "Search", "Checks 7 to 14", "Clearing", "Rust's search", "Share"]);
     table("The block's checks and clearing at c = 1, beside the Rust's search", "", &head, &rows)
 }
@@ -143,4 +145,56 @@ fn tally(results: &Results, unit: Unit) -> String {
     let text = "4,096 tokens added at 64 clusters, a quarter of their values up to 2,000, the others below 12. The checks are those of a call without tokens.";
     let row = vec![unit.call(costs.checks), format!("{:.2}", costs.token), format!("{:.2}", costs.rust), format!("{:.2}", costs.token / costs.rust)];
     table("A tally", unit.told(text), &cells(&["Checks 1 to 4", "A token", "A token of the Rust's", "Ratio"]), &[row])
+}
+
+fn tokens(results: &Results, unit: Unit) -> String {
+    let text = "At 64 clusters of 4,2,0. The Rust counts the nonzero levels, pushes its tokens and splits each. The checks are those of a reader that is lent no token; both ratios are less them.";
+    let row = |costs: &TokenCosts| {
+        let mut row = vec![DENSITIES[costs.density].0.to_string(), whole(costs.c as f64)];
+        row.extend([costs.checks, costs.write, costs.read, costs.rust].map(|cost| unit.call(cost)));
+        row.extend([costs.writing(), costs.reading()].map(|ratio| format!("{ratio:.2}")));
+        row
+    };
+    let rows: Vec<_> = results.tokens.iter().map(row).collect();
+    let head = cells(&["Levels", "c", "Checks", "Writing", "Reading", "Rust", "Writing / Rust", "Reading / writing"]);
+    table("A block's tokens", unit.told(text), &head, &rows)
+}
+
+fn small(results: &Results, unit: Unit) -> String {
+    let text = "Both on the same blocks, less checks 1 to 6, with exactly the room that each needs. The small product searches 32 positions where the first has \
+                63 for c = 1 and 126 for c = 2; what checks look at besides (scan and levels) is the same.";
+    let row = |costs: &SmallCosts| {
+        let ((first, _), (small, _)) = (needed(costs.search, costs.c), needed_small(costs.search));
+        vec![
+            DENSITIES[costs.density].0.to_string(),
+            costs.c.to_string(),
+            format!("{:?}", costs.search),
+            whole(first as f64),
+            whole(small as f64),
+            unit.call(costs.first),
+            unit.call(costs.small),
+            format!("{:.2}", costs.small / costs.first),
+        ]
+    };
+    let rows: Vec<_> = results.small.iter().map(row).collect();
+    let head = cells(&["Levels", "c", "Search", "Choice bytes, first", "small", "Search part, first product", "small product", "Ratio"]);
+    table("The small product beside the first", unit.told(text), &head, &rows)
+}
+
+fn groups(results: &Results, unit: Unit) -> String {
+    let text = "A list of one channel, a third of the levels nonzero. Besides: the whole call less each block's search (`rdoq_block` less its check of the book) and less one \
+                check of the book, a block. The ratio is the whole call, its check of the book and of the blocks included, over the Rust's searches driven with its prediction.";
+    let row = |costs: &GroupCosts| {
+        vec![
+            crate::group_list::KINDS[costs.kind].to_string(),
+            costs.clusters.to_string(),
+            format!("{:?}", costs.search),
+            unit.call(costs.block()),
+            unit.call(costs.besides()),
+            format!("{:.2}", costs.ratio()),
+        ]
+    };
+    let rows: Vec<_> = results.groups.iter().map(row).collect();
+    let head = cells(&["Blocks", "Clusters", "Search", "Whole call, a block", "Besides, a block", "Over the Rust"]);
+    table("A whole group", unit.told(text), &head, &rows)
 }

@@ -6,8 +6,10 @@ use crate::entropy::FrozenTokenPrices;
 use crate::group::trellis::door::{run, Scratch};
 use crate::inputs::{self, CONFIGS, SEARCHED};
 use crate::library::{self, Room};
+use crate::group_list::{self, Group};
 use crate::store::Store;
 use crate::tally::Tally;
+use crate::tokens::{Tokens, Way, WAYS};
 use std::hint::black_box;
 
 /// One thing that is measured. `density` and `config` are places in the lists of `inputs`.
@@ -15,6 +17,10 @@ use std::hint::black_box;
 pub enum Thing {
     /// The whole public call, with exactly the room that it needs.
     Call { search: Search, c: usize, density: usize },
+    /// The trellis with a half-width of the band, on the first density, with exactly the room that it needs.
+    Wide { half_width: usize, c: usize },
+    /// The small product's call, with exactly the room that it needs.
+    Small { search: Search, c: usize, density: usize },
     /// The Rust's search of the same blocks.
     Original { search: Search, c: usize, density: usize },
     /// Checks 1 to 6.
@@ -31,6 +37,10 @@ pub enum Thing {
     Store { call: usize },
     /// A stream of so many tokens added to a tally, by the Rust or by the port.
     Tally { tokens: usize, rust: bool },
+    /// The tokens of blocks.
+    Tokens { c: usize, density: usize, way: Way },
+    /// A group's list of a kind.
+    Group { way: group_list::Way, kind: usize, search: Search, clusters: usize },
 }
 
 impl Thing {
@@ -46,6 +56,10 @@ impl Thing {
             Thing::Store { call } => [6, call, 0, 0],
             Thing::Tally { tokens, rust } => [7, tokens, usize::from(rust), 0],
             Thing::Ans { clusters } => [8, clusters, 0, 0],
+            Thing::Wide { half_width, c } => [9, half_width, c, 0],
+            Thing::Tokens { c, density, way } => [10, c, density, way as usize],
+            Thing::Small { search, c, density } => [11, search as usize, c, density],
+            Thing::Group { way, kind, search, clusters } => [12, 3 * kind + way as usize, search as usize, clusters],
         }
     }
 
@@ -58,7 +72,11 @@ impl Thing {
             [4, c, density, ..] => Thing::Refused { c, density },
             [6, call, ..] => Thing::Store { call },
             [7, tokens, rust, ..] => Thing::Tally { tokens, rust: rust != 0 },
+            [10, c, density, way] => Thing::Tokens { c, density, way: WAYS[way] },
+            [12, what, search, clusters] => Thing::Group { way: group_list::WAYS[what % 3], kind: what / 3, search: SEARCHES[search], clusters },
+            [11, search, c, density] => Thing::Small { search: SEARCHES[search], c, density },
             [8, clusters, ..] => Thing::Ans { clusters },
+            [9, half_width, c, ..] => Thing::Wide { half_width, c },
             [_, search, choices, row] => Thing::Settled { search: SEARCHES[search], choices, row },
         }
     }
@@ -71,12 +89,14 @@ struct Lent {
 }
 
 enum Task {
-    Port { search: Search, book: Book, lent: Vec<Lent>, room: Room },
+    Port { small: bool, search: Search, book: Book, lent: Vec<Lent>, room: Room },
     Rust { search: Search, prices: FrozenTokenPrices, lent: Vec<Lent>, scratch: Scratch },
     Checks(Book),
     PlainLoop(Book),
     Store(Store),
     Tally(Tally),
+    Tokens(Tokens),
+    Group(Box<Group>),
     Ans { freqs: Vec<u16>, symbols: Vec<f32> },
 }
 
@@ -104,6 +124,17 @@ impl Work {
                 let (choices, row) = inputs::needed(search, c);
                 once(port(search, SEARCHED, inputs::blocks(c, density), Room::of(choices, row)))
             }
+            Thing::Wide { half_width, c } => {
+                let half_width = half_width as u32;
+                let (choices, row) = inputs::needed_with(Search::Trellis, c, half_width);
+                let blocks = inputs::blocks(c, 0).into_iter().map(|block| Block { half_width, ..block }).collect();
+                once(port(Search::Trellis, SEARCHED, blocks, Room::of(choices, row)))
+            }
+            Thing::Small { search, c, density } => {
+                let (choices, row) = inputs::needed_small(search);
+                let (book, lent) = (inputs::book(SEARCHED, CONFIGS[0]), lend(inputs::blocks(c, density)));
+                once(Task::Port { small: true, search, book, lent, room: Room::of(choices, row) })
+            }
             Thing::Original { search, c, density } => {
                 let prices = lent(&inputs::book(SEARCHED, CONFIGS[0]));
                 once(Task::Rust { search, prices, lent: lend(inputs::blocks(c, density)), scratch: Scratch::default() })
@@ -120,6 +151,8 @@ impl Work {
             }
             Thing::Store { call } => once(Task::Store(Store::of(call))),
             Thing::Tally { tokens, rust } => once(Task::Tally(Tally::of(tokens, rust))),
+            Thing::Tokens { c, density, way } => once(Task::Tokens(Tokens::of(c, density, way))),
+            Thing::Group { way, kind, search, clusters } => once(Task::Group(Box::new(Group::of(way, kind, search as usize, clusters)))),
             Thing::Ans { clusters } => {
                 let freqs: Vec<u16> = (0..128 * clusters).map(|at| (at * 2657 % 4097) as u16).collect();
                 let symbols = vec![0.0; freqs.len()];
@@ -135,6 +168,8 @@ impl Work {
             Task::Checks(_) | Task::PlainLoop(_) => self.repeat,
             Task::Store(store) => store.calls(),
             Task::Tally(_) => self.repeat,
+            Task::Tokens(tokens) => tokens.calls(),
+            Task::Group(_) => self.repeat,
             Task::Ans { .. } => self.repeat,
         }
     }
@@ -147,9 +182,10 @@ impl Work {
                     levels.copy_from_slice(&block.levels);
                 }
             }
-            Task::Checks(_) | Task::PlainLoop(_) | Task::Ans { .. } => {}
+            Task::Checks(_) | Task::PlainLoop(_) | Task::Ans { .. } | Task::Tokens(_) => {}
             Task::Store(store) => store.reset(),
             Task::Tally(tally) => tally.reset(),
+            Task::Group(group) => group.reset(),
         }
     }
 
@@ -159,9 +195,13 @@ impl Work {
         let mut reply = 0;
         for _ in 0..self.repeat {
             match &mut self.task {
-                Task::Port { search, book, lent, room } => {
+                Task::Port { small, search, book, lent, room } => {
                     for Lent { block, levels } in lent {
-                        reply = library::call(*search, book, block, levels, room);
+                        reply = if *small {
+                            library::small(*search, book, block, levels, room)
+                        } else {
+                            library::call(*search, book, block, levels, room)
+                        };
                     }
                 }
                 Task::Rust { search, prices, lent, scratch } => {
@@ -174,6 +214,8 @@ impl Work {
                 Task::PlainLoop(book) => reply = plain_loop(black_box(book)),
                 Task::Store(store) => reply = black_box(store).round(),
                 Task::Tally(tally) => reply = black_box(tally).round(),
+                Task::Tokens(tokens) => reply = black_box(tokens).round(),
+                Task::Group(group) => reply = black_box(group).round(),
                 Task::Ans { freqs, symbols } => reply = library::ans((freqs.len() / 128) as u32, black_box(freqs), symbols),
             }
         }
@@ -184,7 +226,7 @@ impl Work {
     pub fn levels(&self) -> Vec<&[i32]> {
         match &self.task {
             Task::Port { lent, .. } | Task::Rust { lent, .. } => lent.iter().map(|lent| &lent.levels[..]).collect(),
-            Task::Checks(_) | Task::PlainLoop(_) | Task::Store(_) | Task::Tally(_) | Task::Ans { .. } => Vec::new(),
+            Task::Checks(_) | Task::PlainLoop(_) | Task::Store(_) | Task::Tally(_) | Task::Tokens(_) | Task::Group(_) | Task::Ans { .. } => Vec::new(),
         }
     }
 
@@ -193,7 +235,7 @@ impl Work {
         match &self.task {
             Task::Port { room, .. } => room.is_clear(),
             Task::Rust { scratch, .. } => scratch.is_clear(),
-            Task::Checks(_) | Task::PlainLoop(_) | Task::Store(_) | Task::Tally(_) | Task::Ans { .. } => false,
+            Task::Checks(_) | Task::PlainLoop(_) | Task::Store(_) | Task::Tally(_) | Task::Tokens(_) | Task::Group(_) | Task::Ans { .. } => false,
         }
     }
 }
@@ -203,7 +245,7 @@ fn lend(blocks: Vec<Block>) -> Vec<Lent> {
 }
 
 fn port(search: Search, clusters: usize, blocks: Vec<Block>, room: Room) -> Task {
-    Task::Port { search, book: inputs::book(clusters, CONFIGS[0]), lent: lend(blocks), room }
+    Task::Port { small: false, search, book: inputs::book(clusters, CONFIGS[0]), lent: lend(blocks), room }
 }
 
 /// Check 6, each value split: the loop that the checks are held to.

@@ -7,12 +7,13 @@ use native.Mathlib.Omega.{arith}
 use borrow.Author.Tests.{eqb-true, eq-eqb}
 use lib.Dec.{T, eqb}
 use lib.IntN.{ℤ}
+use lib.ListN.{length}
 use lib.Ieee.{Float, inf}
 use lib.Ieee.Scale.{finite}
 use Rattle.beam_paths.specs.Path.{Path}
 use Rattle.block.specs.Band.{halfWidth, positionsFrom, pastWindow, tailOf, problemOf}
 use Rattle.block.specs.Block.{Block, withLevels, covered, inputRemaining}
-use Rattle.block.specs.Checks.{blockRefusal}
+use Rattle.block.specs.Checks.{blockRefusal, beamRoom, validWidth}
 use Rattle.block.specs.Choice.{IsChoice, windowLevels}
 use Rattle.block.specs.declared.Answer.{Answer}
 use Rattle.block.specs.declared.Answer.the-variants.{Cost, Refused}
@@ -21,11 +22,11 @@ use Rattle.least_cost.specs.Choice.{Choice, remaining}
 use Rattle.least_cost.specs.Search.{countOf, wholeCost}
 use Rattle.prices.specs.Book.{Book}
 use Rattle.prices.specs.Checks.{bookRefusal}
-use Rattle.problem.proofs.Refusals.{NoOutcome, search-number, searched}
+use Rattle.problem.proofs.Refusals.{NoOutcome, search-number, searched, width-free}
 use Rattle.problem.proofs.Written.{put-window, put-choice}
 use Rattle.scan.specs.Scan.{put}
 use Rattle.weights.specs.declared.Window.{Window}
-use Rattle.beam.specs.Beam.{pathTotal, pathsOf, beamCost, beamCount, beamLevels, problem, answered, written, refusal, Outcome, outcomeOf, beamOutcome}
+use Rattle.beam.specs.Beam.{pathTotal, pathsOf, beamCost, beamCount, beamLevels, problem, answered, written, refusal, Outcome, outcomeOf, searchedOutcome, beamOutcome}
 use Rattle.block.specs.Outcome.{RefusedKeeps}
 use Rattle.beam.specs.Demand.{RefusedExactly, KeptCost, KeptAnswered, PromisedIn}
 use Rattle.beam.proofs.Priced.{levels-choice, levels-count, levels-cost, least-kept, each-infinite, least-infinite}
@@ -102,43 +103,43 @@ either-levels true x y k l m n = refl
 either-levels false x y k l m n = refl
 
 -- a window that the checks let pass is one within the block
-module _ (v : Window) (book : Book) (b : Block) (within : blockRefusal v b 0 ≡ 0 → Passed v b) (choices : List ℕ) where
-  answer-is : beamOutcome v book b choices .answer ≡ cond (eqb (refusal v book b choices) 0) (answered v book b) (Refused (refusal v book b choices))
-  unfolding beamOutcome
-  answer-is = either-answer (eqb (refusal v book b choices) 0) _ _ _ _ _ _
+module _ (w : ℕ) (v : Window) (book : Book) (b : Block) (within : blockRefusal w v b 0 ≡ 0 → Passed v b) (choices : List ℕ) where
+  answer-is : beamOutcome w v book b choices .answer ≡ cond (eqb (refusal w v book b choices) 0) (answered v book b) (Refused (refusal w v book b choices))
+  unfolding beamOutcome searchedOutcome
+  answer-is = either-answer (eqb (refusal w v book b choices) 0) _ _ _ _ _ _
 
-  levels-are : beamOutcome v book b choices .levels ≡ cond (eqb (refusal v book b choices) 0) (written v book b) (b .levels)
-  unfolding beamOutcome
-  levels-are = either-levels (eqb (refusal v book b choices) 0) _ _ _ _ _ _
+  levels-are : beamOutcome w v book b choices .levels ≡ cond (eqb (refusal w v book b choices) 0) (written v book b) (b .levels)
+  unfolding beamOutcome searchedOutcome
+  levels-are = either-levels (eqb (refusal w v book b choices) 0) _ _ _ _ _ _
 
-  passed-all : refusal v book b choices ≡ 0 → (bookRefusal book ≡ 0) × Passed v b
+  passed-all : refusal w v book b choices ≡ 0 → (bookRefusal book ≡ 0) × Passed v b
   unfolding refusal
   passed-all e =
-      let s = searched v book b _ e in
+      let s = searched w v book b _ e in
       (s .0, within (s .1 .0))
 
-  refusal-number : NoOutcome (refusal v book b choices)
+  refusal-number : NoOutcome (refusal w v book b choices)
   unfolding refusal
-  refusal-number = search-number v book b _
+  refusal-number = search-number w v book b _
 
-  refused-16 : RefusedExactly v book b choices (cond (eqb (refusal v book b choices) 0) (answered v book b) (Refused (refusal v book b choices)))
-  refused-16 = (λ e. only (eqb (refusal v book b choices) 0) refl e, λ h. rw (eq-eqb (refusal v book b choices) 0 (h .0)) (refused-where v book b (passed-all (h .0) .0) (passed-all (h .0) .1) (h .1)))
+  refused-16 : RefusedExactly w v book b choices (cond (eqb (refusal w v book b choices) 0) (answered v book b) (Refused (refusal w v book b choices)))
+  refused-16 = (λ e. only (eqb (refusal w v book b choices) 0) refl e, λ h. rw (eq-eqb (refusal w v book b choices) 0 (h .0)) (refused-where v book b (passed-all (h .0) .0) (passed-all (h .0) .1) (h .1)))
     where
-      only : (t : Bool) → eqb (refusal v book b choices) 0 ≡ t → cond t (answered v book b) (Refused (refusal v book b choices)) ≡ Refused 16
-          → (refusal v book b choices ≡ 0) × ((x : Path) → Mem x (pathsOf (problem v book b)) → pathTotal (problem v book b) x ≡ inf false)
+      only : (t : Bool) → eqb (refusal w v book b choices) 0 ≡ t → cond t (answered v book b) (Refused (refusal w v book b choices)) ≡ Refused 16
+          → (refusal w v book b choices ≡ 0) × ((x : Path) → Mem x (pathsOf (problem v book b)) → pathTotal (problem v book b) x ≡ inf false)
       only true h e =
-          let z = eqb-true (refusal v book b choices) 0 h in
+          let z = eqb-true (refusal w v book b choices) 0 h in
           (z, refused-only v book b (passed-all z .0) (passed-all z .1) e)
       only false h e =
-          let bad : refusal v book b choices ≡ 16 = cc in
+          let bad : refusal w v book b choices ≡ 16 = cc in
           absurd (refusal-number .not-16 bad)
 
-  kept-answered : KeptAnswered v book b (cond (eqb (refusal v book b choices) 0) (written v book b) (b .levels)) (cond (eqb (refusal v book b choices) 0) (answered v book b) (Refused (refusal v book b choices)))
-  kept-answered x n e = go (eqb (refusal v book b choices) 0) refl e
+  kept-answered : KeptAnswered v book b (cond (eqb (refusal w v book b choices) 0) (written v book b) (b .levels)) (cond (eqb (refusal w v book b choices) 0) (answered v book b) (Refused (refusal w v book b choices)))
+  kept-answered x n e = go (eqb (refusal w v book b choices) 0) refl e
     where
-      go : (t : Bool) → eqb (refusal v book b choices) 0 ≡ t → cond t (answered v book b) (Refused (refusal v book b choices)) ≡ Cost x n → KeptCost v book b (cond t (written v book b) (b .levels)) x n
+      go : (t : Bool) → eqb (refusal w v book b choices) 0 ≡ t → cond t (answered v book b) (Refused (refusal w v book b choices)) ≡ Cost x n → KeptCost v book b (cond t (written v book b) (b .levels)) x n
       go true h k =
-          let z = eqb-true (refusal v book b choices) 0 h in
+          let z = eqb-true (refusal w v book b choices) 0 h in
           answered-kept v book b (passed-all z .0) (passed-all z .1) x n k
       go false h k =
           let bad : _≡_ {A = ℕ} 0 1 = cc in
@@ -155,30 +156,36 @@ module _ (v : Window) (book : Book) (b : Block) (within : blockRefusal v b 0 ≡
           absurd (omega arith)
       go false k = refl
 
-  refused-keeps : RefusedKeeps b (cond (eqb (refusal v book b choices) 0) (written v book b) (b .levels)) (cond (eqb (refusal v book b choices) 0) (answered v book b) (Refused (refusal v book b choices)))
-  refused-keeps n e = go (eqb (refusal v book b choices) 0) e
+  refused-keeps : RefusedKeeps b (cond (eqb (refusal w v book b choices) 0) (written v book b) (b .levels)) (cond (eqb (refusal w v book b choices) 0) (answered v book b) (Refused (refusal w v book b choices)))
+  refused-keeps n e = go (eqb (refusal w v book b choices) 0) e
     where
-      go : (t : Bool) → cond t (answered v book b) (Refused (refusal v book b choices)) ≡ Refused n → cond t (written v book b) (b .levels) ≡ b .levels
+      go : (t : Bool) → cond t (answered v book b) (Refused (refusal w v book b choices)) ≡ Refused n → cond t (written v book b) (b .levels) ≡ b .levels
       go true k = answered-keeps n k
       go false k = refl
 
 -- ---- whatever equals the outcome meets the whole contract
-module _ (v : Window) (book : Book) (b : Block) (within : blockRefusal v b 0 ≡ 0 → Passed v b) (choices : List ℕ) {after : Outcome} (e : after ≡ beamOutcome v book b choices) where
-  answered-as : after .answer ≡ cond (eqb (refusal v book b choices) 0) (answered v book b) (Refused (refusal v book b choices))
-  answered-as = ap (λ (r : Outcome). r .answer) e ∙ answer-is v book b within choices
+module _ (w : ℕ) (v : Window) (book : Book) (b : Block) (within : blockRefusal w v b 0 ≡ 0 → Passed v b) (choices : List ℕ) {after : Outcome} (e : after ≡ beamOutcome w v book b choices) where
+  answered-as : after .answer ≡ cond (eqb (refusal w v book b choices) 0) (answered v book b) (Refused (refusal w v book b choices))
+  answered-as = ap (λ (r : Outcome). r .answer) e ∙ answer-is w v book b within choices
 
-  left-as : after .levels ≡ cond (eqb (refusal v book b choices) 0) (written v book b) (b .levels)
-  left-as = ap (λ (r : Outcome). r .levels) e ∙ levels-are v book b within choices
+  left-as : after .levels ≡ cond (eqb (refusal w v book b choices) 0) (written v book b) (b .levels)
+  left-as = ap (λ (r : Outcome). r .levels) e ∙ levels-are w v book b within choices
 
-  pub promised : PromisedIn v book b choices after
+  same-outcome : (n : ℕ) → validWidth w ≡ true → validWidth n ≡ true → beamOutcome w v book b choices ≡ beamOutcome n v book b choices
+  unfolding beamOutcome refusal
+  same-outcome n f g =
+      ap (λ (r : ℕ). cond (eqb r 0) (searchedOutcome v book b choices) (outcomeOf (Refused r) (b .levels) choices)) (width-free w n v book b (beamRoom (v .length) (length choices)) f g)
+
+  pub promised : PromisedIn w v book b choices after
   promised =
       record {
         outcome = e;
-        exact = subst⁻¹ (RefusedExactly v book b choices) answered-as (refused-16 v book b within choices);
+        any-width = λ n f g. e ∙ same-outcome n f g;
+        exact = subst⁻¹ (RefusedExactly w v book b choices) answered-as (refused-16 w v book b within choices);
         kept =
             subst⁻¹ (λ (r : Answer). KeptAnswered v book b (after .levels) r) answered-as
-            (subst⁻¹ (λ (l : List ℤ). KeptAnswered v book b l (cond (eqb (refusal v book b choices) 0) (answered v book b) (Refused (refusal v book b choices)))) left-as (kept-answered v book b within choices));
+            (subst⁻¹ (λ (l : List ℤ). KeptAnswered v book b l (cond (eqb (refusal w v book b choices) 0) (answered v book b) (Refused (refusal w v book b choices)))) left-as (kept-answered w v book b within choices));
         keeps =
             subst⁻¹ (λ (r : Answer). RefusedKeeps b (after .levels) r) answered-as
-            (subst⁻¹ (λ (l : List ℤ). RefusedKeeps b l (cond (eqb (refusal v book b choices) 0) (answered v book b) (Refused (refusal v book b choices)))) left-as (refused-keeps v book b within choices));
+            (subst⁻¹ (λ (l : List ℤ). RefusedKeeps b l (cond (eqb (refusal w v book b choices) 0) (answered v book b) (Refused (refusal w v book b choices)))) left-as (refused-keeps w v book b within choices));
       }

@@ -77,13 +77,15 @@ pub record Outcome : Type 0 where
 abbrev pub outcomeOf : Answer → List ℤ → List ℕ → Outcome
 outcomeOf answer levels choices = record { answer = answer; levels = levels; choices = choices }
 
--- the number of the first check that refuses; 0 where none does
-unfoldable pub refusal : Window → Book → Block → List ℕ → ℕ
-refusal v book b choices = searchRefusal v book b (beamRoom (v .length) (length choices))
+-- of a block that passed its checks: all of the choices, surplus included, end as 255
+unfoldable pub searchedOutcome : Window → Book → Block → List ℕ → Outcome
+searchedOutcome v book b choices = outcomeOf (answered v book b) (written v book b) (replicate (length choices) 255)
 
--- Refused by a check, nothing changes; else all of the choices, surplus included, end as 255.
-unfoldable pub beamOutcome : Window → Book → Block → List ℕ → Outcome
-beamOutcome v book b choices =
-    cond (eqb (refusal v book b choices) 0)
-    (outcomeOf (answered v book b) (written v book b) (replicate (length choices) 255))
-    (outcomeOf (Refused (refusal v book b choices)) (b .levels) choices)
+-- the number of the first check that refuses; 0 where none does. The half-width w plays no part in the search, and is checked all the same.
+unfoldable pub refusal : ℕ → Window → Book → Block → List ℕ → ℕ
+refusal w v book b choices = searchRefusal w v book b (beamRoom (v .length) (length choices))
+
+-- Refused by a check, nothing changes.
+unfoldable pub beamOutcome : ℕ → Window → Book → Block → List ℕ → Outcome
+beamOutcome w v book b choices =
+    cond (eqb (refusal w v book b choices) 0) (searchedOutcome v book b choices) (outcomeOf (Refused (refusal w v book b choices)) (b .levels) choices)

@@ -7,22 +7,22 @@ mod walk;
 use bias::DequantBias;
 use block::Answer;
 use block::Shape;
+use weights::SearchSettings;
 use weights::Settings;
 ghost use mathlib.Core.Path.{_≡_};
-ghost use Prim.Native.Nat.{_<_};
+ghost use Prim.Native.Nat.{_*_, _≤_};
+ghost use lib.ListN.{length};
 ghost use Rattle.block.specs.Block.{blockOf, covered};
 ghost use Rattle.prices.specs.Book.{bookOf};
+ghost use Rattle.search_checks.specs.Checked.{Accepted};
 ghost use Rattle.weights.specs.Window.{windowFor};
-ghost use Rattle.beam.specs.Beam.{outcomeOf, refusal};
-ghost use Rattle.beam.specs.Demand.{PromisedIn, Promised};
+ghost use Rattle.beam.specs.Beam.{outcomeOf, searchedOutcome};
+ghost use Rattle.beam.specs.Demand.{Promised};
 
 // Choice bytes a window position.
 pub const BEAM_BYTES: usize = 6;
 
-// A cap that leaves document 01's window whole.
-const WINDOW_CAP: usize = 1024;
-
-// The search alone, for arguments that no check refuses: a window of at most `cap` positions.
+// The search alone, of a block that passed its checks: a window of at most `cap` positions.
 pub fn search_beam(
     clusters: u32,
     map: &[u8],
@@ -40,12 +40,10 @@ pub fn search_beam(
     choices: &mut [u8],
     cap: usize,
 ) -> Answer
-    requires { ⌜ 0 < cap ⌝ }
-    requires { ⌜ (let b = blockOf shape settings bias scale (now scan) (now source) (now «inv_qm») (now levels) in refusal (windowFor cap (covered b)) (bookOf clusters (now map) (now configs) (now symbols) (now ready)) b (now choices) ≡ 0) ⌝ }
-    ensures { λ r. ⌜ (let b = blockOf shape settings bias scale (now (scan .entry)) (now (source .entry)) (now («inv_qm» .entry)) (now (levels .entry)) in PromisedIn (windowFor cap (covered b))
-        (bookOf clusters (now (map .entry)) (now (configs .entry)) (now (symbols .entry)) (now (ready .entry))) b
-        (now (choices .entry))
-        (outcomeOf r (now (levels .exit)) (now (choices .exit)))) ⌝ }
+    requires { ⌜ (let b = blockOf shape settings bias scale (now scan) (now source) (now «inv_qm») (now levels) in let v = windowFor cap (covered b) in
+        Accepted v (bookOf clusters (now map) (now configs) (now symbols) (now ready)) b × (6 * v .length ≤ length (now choices))) ⌝ }
+    ensures { λ r. ⌜ (let b = blockOf shape settings bias scale (now (scan .entry)) (now (source .entry)) (now («inv_qm» .entry)) (now (levels .entry)) in
+        outcomeOf r (now (levels .exit)) (now (choices .exit)) ≡ searchedOutcome (windowFor cap (covered b)) (bookOf clusters (now (map .entry)) (now (configs .entry)) (now (symbols .entry)) (now (ready .entry))) b (now (choices .entry))) ⌝ }
 {
     let plan = steps::reading::plan_of(shape, settings, bias, scale, cap);
     let answer = search::search(
@@ -65,15 +63,17 @@ pub fn search_beam(
     answer
 }
 
-// The checks, then the search.
-pub fn rdoq_block_beam_in(
+// Writes the levels of the cheapest path that is left, and answers its cost and its count of nonzero levels from scan position c on; or
+// refuses with 16 where every path that is left has an infinite cost. Both ways the choice bytes end as 255, surplus included. Room: six choice bytes a window position. Refused by one of its
+// checks, nothing changes. A level written may be 32,768 in size, which check 12 refuses in a later call.
+pub fn rdoq_block_beam(
     clusters: u32,
     map: &[u8],
     configs: &[u8],
     symbols: &[f32],
     ready: &[f32],
     shape: Shape,
-    settings: Settings,
+    settings: SearchSettings,
     bias: DequantBias,
     scale: f32,
     scan: &[u32],
@@ -81,13 +81,12 @@ pub fn rdoq_block_beam_in(
     inv_qm: &[f32],
     levels: &mut [i32],
     choices: &mut [u8],
-    cap: usize,
 ) -> Answer
-    requires { ⌜ 0 < cap ⌝ }
-    ensures { λ r. ⌜ (let b = blockOf shape settings bias scale (now (scan .entry)) (now (source .entry)) (now («inv_qm» .entry)) (now (levels .entry)) in PromisedIn (windowFor cap (covered b))
-        (bookOf clusters (now (map .entry)) (now (configs .entry)) (now (symbols .entry)) (now (ready .entry))) b
+    ensures { λ r. ⌜ Promised (settings .«half_width»)
+        (bookOf clusters (now (map .entry)) (now (configs .entry)) (now (symbols .entry)) (now (ready .entry)))
+        (blockOf shape (settings .weighing) bias scale (now (scan .entry)) (now (source .entry)) (now («inv_qm» .entry)) (now (levels .entry)))
         (now (choices .entry))
-        (outcomeOf r (now (levels .exit)) (now (choices .exit)))) ⌝ }
+        (outcomeOf r (now (levels .exit)) (now (choices .exit))) ⌝ }
 {
     let refusal = search_checks::check_search(
         clusters,
@@ -96,14 +95,15 @@ pub fn rdoq_block_beam_in(
         symbols,
         ready,
         shape,
-        settings,
+        settings.weighing,
         bias,
         scale,
         scan,
         source,
         inv_qm,
         levels,
-        cap,
+        settings.half_width,
+        weights::WINDOW_CAP,
         BEAM_BYTES,
         0,
         choices.len(),
@@ -120,7 +120,7 @@ pub fn rdoq_block_beam_in(
         symbols,
         ready,
         shape,
-        settings,
+        settings.weighing,
         bias,
         scale,
         scan,
@@ -128,50 +128,6 @@ pub fn rdoq_block_beam_in(
         inv_qm,
         levels,
         choices,
-        cap,
-    )
-}
-
-// Writes the levels of the cheapest path that is left, and answers its cost and its count of nonzero levels from scan position c on; or
-// refuses with 16 where every path that is left has an infinite cost. Both ways the choice bytes end as 255, surplus included. Room: six choice bytes a window position. Refused by one of checks 1
-// to 14, nothing changes. A level written may be 32,768 in size, which check 12 refuses in a later call.
-pub fn rdoq_block_beam(
-    clusters: u32,
-    map: &[u8],
-    configs: &[u8],
-    symbols: &[f32],
-    ready: &[f32],
-    shape: Shape,
-    settings: Settings,
-    bias: DequantBias,
-    scale: f32,
-    scan: &[u32],
-    source: &[f32],
-    inv_qm: &[f32],
-    levels: &mut [i32],
-    choices: &mut [u8],
-) -> Answer
-    ensures { λ r. ⌜ Promised
-        (bookOf clusters (now (map .entry)) (now (configs .entry)) (now (symbols .entry)) (now (ready .entry)))
-        (blockOf shape settings bias scale (now (scan .entry)) (now (source .entry)) (now («inv_qm» .entry)) (now (levels .entry)))
-        (now (choices .entry))
-        (outcomeOf r (now (levels .exit)) (now (choices .exit))) ⌝ }
-{
-    rdoq_block_beam_in(
-        clusters,
-        map,
-        configs,
-        symbols,
-        ready,
-        shape,
-        settings,
-        bias,
-        scale,
-        scan,
-        source,
-        inv_qm,
-        levels,
-        choices,
-        WINDOW_CAP,
+        weights::WINDOW_CAP,
     )
 }

@@ -63,6 +63,7 @@ fn take_position(
     step.paths
 }
 
+// The positions before `from`, down to `upto`.
 pub(crate) fn take_positions(
     clusters: u32,
     map: &[u8],
@@ -74,21 +75,23 @@ pub(crate) fn take_positions(
     inv_qm: &[f32],
     levels: &[i32],
     plan: Plan,
+    from: usize,
+    upto: usize,
     start: Paths,
     choices: &mut [u8],
 ) -> Paths
     requires { ⌜ Searched (bookOf clusters (now map) (now configs) (now symbols) (now ready)) (now scan) (now source) (now «inv_qm») (now levels) plan ⌝ }
     requires { ⌜ ((w : Searched (bookOf clusters (now map) (now configs) (now symbols) (now ready)) (now scan) (now source) (now «inv_qm») (now levels) plan)
-        → PathsFor (paths (plan .window) (bookOf clusters (now map) (now configs) (now symbols) (now ready)) (w .block) (plan .window .length)) start) ⌝ }
+        → Reached (plan .window) (bookOf clusters (now map) (now configs) (now symbols) (now ready)) (w .block) from (now choices) start) ⌝ }
+    requires { ⌜ (upto ≤ from) × (from ≤ plan .window .length) ⌝ }
     requires { ⌜ 6 * plan .window .length ≤ length (now choices) ⌝ }
     ensures { λ r. ⌜ length (now (choices .exit)) ≡ length (now (choices .entry)) ⌝ }
     ensures { λ r. ⌜ ((w : Searched (bookOf clusters (now (map .entry)) (now (configs .entry)) (now (symbols .entry)) (now (ready .entry))) (now (scan .entry)) (now (source .entry)) (now («inv_qm» .entry)) (now (levels .entry)) plan)
-        → Reached (plan .window) (bookOf clusters (now (map .entry)) (now (configs .entry)) (now (symbols .entry)) (now (ready .entry))) (w .block) 0 (now (choices .exit)) r) ⌝ }
+        → Reached (plan .window) (bookOf clusters (now (map .entry)) (now (configs .entry)) (now (symbols .entry)) (now (ready .entry))) (w .block) upto (now (choices .exit)) r) ⌝ }
 {
-    let window = plan.window;
     let mut paths = start;
-    let mut i = window.length;
-    while 0 < i {
+    let mut i = from;
+    while upto < i {
         i -= 1;
         paths = take_position(
             clusters,

@@ -59,6 +59,7 @@ fn write_found(
     Answer::Refused(16)
 }
 
+// The positions are taken by two calls, so that their loop stays a function of its own: inlined beside the checks it takes more instructions.
 pub(crate) fn search(
     clusters: u32,
     map: &[u8],
@@ -79,6 +80,24 @@ pub(crate) fn search(
         → (r ≡ answered (plan .window) (bookOf clusters (now (map .entry)) (now (configs .entry)) (now (symbols .entry)) (now (ready .entry))) (w .block)) × (now (levels .exit) ≡ written (plan .window) (bookOf clusters (now (map .entry)) (now (configs .entry)) (now (symbols .entry)) (now (ready .entry))) (w .block))) ⌝ }
 {
     let start = start::start_of(clusters, map, configs, symbols, ready, plan, scan, levels);
+    let window = plan.window;
+    let middle = window.length / 2;
+    let later = positions::take_positions(
+        clusters,
+        map,
+        configs,
+        symbols,
+        ready,
+        scan,
+        source,
+        inv_qm,
+        levels,
+        plan,
+        window.length,
+        middle,
+        start_paths(start),
+        choices,
+    );
     let kept = positions::take_positions(
         clusters,
         map,
@@ -90,7 +109,9 @@ pub(crate) fn search(
         inv_qm,
         levels,
         plan,
-        start_paths(start),
+        middle,
+        0,
+        later,
         choices,
     );
     let best = ending::best_path(clusters, map, configs, symbols, ready, plan, kept);

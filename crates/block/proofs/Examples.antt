@@ -82,7 +82,7 @@ shaped strategy cx cy =
     (replicate (64 * (cx * cy)) (pos 0))
 
 -- The sides' product must be the strategy's, whichever side is the longer; a code that the standard does not have is refused as such.
-pub refused-sides : map (λ b. blockRefusal (windowOf 1) b 0) (shaped 4 1 1 ∷ shaped 27 1 1 ∷ []) ≡ 18 ∷ 9 ∷ []
+pub refused-sides : map (λ b. blockRefusal 6 (windowOf 1) b 0) (shaped 4 1 1 ∷ shaped 27 1 1 ∷ []) ≡ 18 ∷ 9 ∷ []
 unfolding blockRefusal formChecks firstRefused check7 check8 check9 check18 strategyCovered covered isPowerBelow
 refused-sides = refl
 

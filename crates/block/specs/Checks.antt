@@ -1,4 +1,4 @@
--- Checks 7 to 14 of document 01, with document 02's 18, in the order in which they are made.
+-- Checks 7 to 14 of document 01, with document 02's 18 and 26, in the order in which they are made.
 use Prim.Native.Nat.{ℕ, _+_, _-_, _*_}
 use mathlib.Core.Bool.{Bool, cond, _&&_}
 use mathlib.Core.List.{List, [], _∷_, _++_}
@@ -41,6 +41,10 @@ check18 b = eqb (covered b) (getD strategyCovered (b .shape .strategy) 0)
 unfoldable pub check10 : Block → Bool
 check10 b = validSettings (b .settings) && validBias (b .bias)
 
+-- check 26: the half-width w of the band
+unfoldable pub validWidth : ℕ → Bool
+validWidth w = leb 1 w && leb w 12
+
 unfoldable pub check11 : Block → Bool
 check11 b = eachOnce (b .scan)
 
@@ -52,7 +56,7 @@ check12 b = each (63 * covered b) (λ i. isCurrent (inputAt b (covered b + i)))
 unfoldable pub check13 : Window → Block → Bool
 check13 v b = each (v .length) (λ i. isIdeal (ideal b i))
 
--- The checks of a block in their order, each with its number: first what is known without a look into the buffers ..
+-- The checks of a block in their order, each with its number: first what is known without a look into the buffers, then 26 ..
 unfoldable pub formChecks : Block → List (Bool × ℕ)
 formChecks b = (check7 b, 7) ∷ (check8 b, 8) ∷ (check9 b, 9) ∷ (check18 b, 18) ∷ (check10 b, 10) ∷ []
 
@@ -60,24 +64,32 @@ formChecks b = (check7 b, 7) ∷ (check8 b, 8) ∷ (check9 b, 9) ∷ (check18 b,
 unfoldable pub contentChecks : Window → Block → List (Bool × ℕ)
 contentChecks v b = (check11 b, 11) ∷ (check12 b, 12) ∷ (check13 v b, 13) ∷ []
 
--- the number of the first check that a block fails, else what comes after them
-unfoldable pub blockRefusal : Window → Block → ℕ → ℕ
-blockRefusal v b later = firstRefused (formChecks b ++ contentChecks v b) later
+-- the number of the first check that a block fails, with a half-width w and a window v; else what comes after them
+unfoldable pub blockRefusal : ℕ → Window → Block → ℕ → ℕ
+blockRefusal w v b later = firstRefused (formChecks b ++ ((validWidth w, 26) ∷ contentChecks v b)) later
 
--- The first refusal of a search of the window v among checks 1 to 14 and 18; 0 where there is none. `room`: check 14 passes.
-unfoldable pub searchRefusal : Window → Book → Block → Bool → ℕ
-searchRefusal v book b room = cond (eqb (bookRefusal book) 0) (blockRefusal v b (cond room 0 14)) (bookRefusal book)
+-- The first refusal of a search among checks 1 to 14, 18 and 26; 0 where there is none. `room`: check 14 passes.
+unfoldable pub searchRefusal : ℕ → Window → Book → Block → Bool → ℕ
+searchRefusal w v book b room = cond (eqb (bookRefusal book) 0) (blockRefusal w v b (cond room 0 14)) (bookRefusal book)
 
 -- Check 14. A search asks for `bytes` choice bytes a window position and, in each cost row, for `floats` floats.
 unfoldable pub enoughRoom : ℕ → ℕ → ℕ → ℕ → ℕ → ℕ → Bool
 enoughRoom bytes floats window choices rowA rowB = leb (bytes * window) choices && leb floats rowA && leb floats rowB
 
--- The trellis: one of each for each of a position's states, w being the band's half-width.
+-- The trellis, w being the half-width of its band: a position has 2w + 2 counts, each with a state for `prev` 0 and one for `prev` 1. A byte holds the choices of the two
+-- (document 02), a row their costs.
+abbrev pub choiceBytes : ℕ → ℕ
+choiceBytes w = 2 * w + 2
+
 abbrev pub states : ℕ → ℕ
 states w = 2 * (2 * w + 2)
 
 abbrev pub trellisRoom : ℕ → ℕ → ℕ → ℕ → ℕ → Bool
-trellisRoom w window choices rowA rowB = enoughRoom (states w) (states w) window choices rowA rowB
+trellisRoom w window choices rowA rowB = enoughRoom (choiceBytes w) (states w) window choices rowA rowB
+
+-- document 01's, a byte for each choice
+abbrev pub wideRoom : ℕ → ℕ → ℕ → ℕ → ℕ → Bool
+wideRoom w window choices rowA rowB = enoughRoom (states w) (states w) window choices rowA rowB
 
 -- The beam: six bytes, a path of three for each `prev`. Greedy: nothing.
 abbrev pub beamRoom : ℕ → ℕ → Bool

@@ -1,7 +1,7 @@
 -- What checks 7 to 13 leave a search with. Assumes nothing.
-use mathlib.Core.Path.{_≡_, refl, sym, _∙_}
+use mathlib.Core.Path.{_≡_, refl, sym, ap, _∙_}
 use mathlib.Core.Bool.{Bool, true, false, cond, _&&_}
-use mathlib.Core.List.{_++_}
+use mathlib.Core.List.{List, _∷_, _++_}
 use Prim.Native.Nat.{ℕ, suc, _+_, _-_, _*_, _≤_, _<_, min}
 use native.Mathlib.Nat.{le-trans, le-min, min-le-left, min-le-right}
 use native.Mathlib.Omega.{arith}
@@ -12,7 +12,7 @@ use Rattle.ac_context.specs.Contexts.{isPowerBelow, Covered}
 use Rattle.ac_context.proofs.Bounds.{covered-some, covered-most}
 use Rattle.bias.specs.Level.{validBias}
 use Rattle.block.specs.Block.{Block, covered, inputAt, ideal}
-use Rattle.block.specs.Checks.{check7, check8, check9, check18, check10, check11, check12, check13, formChecks, contentChecks, blockRefusal, searchRefusal}
+use Rattle.block.specs.Checks.{check7, check8, check9, check18, check10, check11, check12, check13, validWidth, formChecks, contentChecks, blockRefusal, searchRefusal}
 use Rattle.candidates.specs.Candidates.{isCurrent}
 use Rattle.candidates.specs.Nearest.{isIdeal}
 use Rattle.laws.proofs.Tests.{and-left, and-right}
@@ -90,23 +90,43 @@ formed b e =
       bias = and-right (validSettings (b .settings)) (validBias (b .bias)) (t10 .0);
     }
 
--- the two parts make up the whole: where the first refuses, so does the whole ..
-pub form-first : (v : Window) (b : Block) {r : ℕ} → r ≡ formRefusal b → (r ≡ 0 → ⊥) → r ≡ blockRefusal v b 0
-unfolding blockRefusal formRefusal
-form-first v b e n =
-    e ∙ sym (in-turn (formChecks b) (contentChecks v b) 0 ∙ refused-first (formChecks b) (firstRefused (contentChecks v b) 0) (λ z. n (e ∙ z)))
+-- what comes after the first part
+abbrev laterChecks : ℕ → Window → Block → List (Bool × ℕ)
+laterChecks w v b = (validWidth w, 26) ∷ contentChecks v b
 
--- .. where it passes, the second decides ..
-pub form-passed : (v : Window) (b : Block) → formRefusal b ≡ 0 → blockRefusal v b 0 ≡ contentRefusal v b
-unfolding blockRefusal formRefusal contentRefusal formChecks
-form-passed v b e = in-turn (formChecks b) (contentChecks v b) 0 ∙ all-pass (formChecks b) (firstRefused (contentChecks v b) 0) refl e
+-- The parts make up the whole: where the first refuses, so does the whole ..
+pub form-first : (w : ℕ) (v : Window) (b : Block) {r : ℕ} → r ≡ formRefusal b → (r ≡ 0 → ⊥) → r ≡ blockRefusal w v b 0
+unfolding blockRefusal formRefusal
+form-first w v b e n =
+    e ∙ sym (in-turn (formChecks b) (laterChecks w v b) 0 ∙ refused-first (formChecks b) (firstRefused (laterChecks w v b) 0) (λ z. n (e ∙ z)))
+
+-- .. where it passes, the half-width and then the second decide ..
+form-passed : (w : ℕ) (v : Window) (b : Block) → formRefusal b ≡ 0 → blockRefusal w v b 0 ≡ cond (validWidth w) (contentRefusal v b) 26
+unfolding blockRefusal formRefusal contentRefusal formChecks firstRefused
+form-passed w v b e =
+    in-turn (formChecks b) (laterChecks w v b) 0 ∙ all-pass (formChecks b) (firstRefused (laterChecks w v b) 0) refl e
+
+pub width-refused : (w : ℕ) (v : Window) (b : Block) → formRefusal b ≡ 0 → validWidth w ≡ false → 26 ≡ blockRefusal w v b 0
+width-refused w v b e t = sym (form-passed w v b e ∙ ap (λ (x : Bool). cond x (contentRefusal v b) 26) t)
+
+pub width-passed : (w : ℕ) (v : Window) (b : Block) → formRefusal b ≡ 0 → validWidth w ≡ true → blockRefusal w v b 0 ≡ contentRefusal v b
+width-passed w v b e t = form-passed w v b e ∙ ap (λ (x : Bool). cond x (contentRefusal v b) 26) t
 
 -- .. and a whole that passes has parts that pass.
-both-parts : (v : Window) (b : Block) → blockRefusal v b 0 ≡ 0 → (formRefusal b ≡ 0) × (contentRefusal v b ≡ 0)
+both-parts : (w : ℕ) (v : Window) (b : Block) → blockRefusal w v b 0 ≡ 0 → (formRefusal b ≡ 0) × (validWidth w ≡ true) × (contentRefusal v b ≡ 0)
 unfolding formRefusal formChecks blockRefusal
-both-parts v b e =
-    let form : formRefusal b ≡ 0 = none-refused (formChecks b) (firstRefused (contentChecks v b) 0) refl (sym (in-turn (formChecks b) (contentChecks v b) 0) ∙ e) in
-    (form, sym (form-passed v b form) ∙ e)
+both-parts w v b e =
+    let form : formRefusal b ≡ 0 = none-refused (formChecks b) (firstRefused (laterChecks w v b) 0) refl (sym (in-turn (formChecks b) (laterChecks w v b) 0) ∙ e) in
+    let t26 = passes-first (validWidth w) 26 _ 0 refl (sym (all-pass (formChecks b) (firstRefused (laterChecks w v b) 0) refl form) ∙ sym (in-turn (formChecks b) (laterChecks w v b) 0) ∙ e) in
+    (form, t26 .0, sym (width-passed w v b form (t26 .0)) ∙ e)
+
+pub width-held : (w : ℕ) (v : Window) (b : Block) → blockRefusal w v b 0 ≡ 0 → validWidth w ≡ true
+width-held w v b e = both-parts w v b e .1
+
+-- a half-width that passed
+pub width-few : (w : ℕ) → validWidth w ≡ true → w ≤ 12
+unfolding validWidth
+width-few w e = leb-true _ _ (and-right (leb 1 w) (leb w 12) e)
 
 -- document 01's window
 windowed : (c : ℕ) → 0 < c → Windowed c (windowOf c)
@@ -160,12 +180,12 @@ module _ (v : Window) (b : Block) where
   window-ideals e i h = is-true (each-below (λ i. isIdeal (ideal b i)) (v .length) e i h)
 
   -- any window within the block
-  pub passed-in : blockRefusal v b 0 ≡ 0 → Windowed (covered b) v → Passed v b
+  pub passed-in : (w : ℕ) → blockRefusal w v b 0 ≡ 0 → Windowed (covered b) v → Passed v b
   unfolding contentRefusal contentChecks check11
-  passed-in e w =
-      let parts = both-parts v b e in
+  passed-in n e w =
+      let parts = both-parts n v b e in
       let f = formed b (parts .0) in
-      let t11 = passes-first (check11 b) 11 _ 0 refl (parts .1) in
+      let t11 = passes-first (check11 b) 11 _ 0 refl (parts .2) in
       let t12 = passes-first (check12 b) 12 _ 0 refl (t11 .1) in
       let t13 = passes-first (check13 v b) 13 _ 0 refl (t12 .1) in
       record {
@@ -190,36 +210,31 @@ module _ (v : Window) (b : Block) where
       }
 
 -- a window under a cap
-pub passed : (cap : ℕ) (b : Block) → 0 < cap → blockRefusal (windowFor cap (covered b)) b 0 ≡ 0 → Passed (windowFor cap (covered b)) b
-passed cap b some e =
+pub passed : (w cap : ℕ) (b : Block) → 0 < cap → blockRefusal w (windowFor cap (covered b)) b 0 ≡ 0 → Passed (windowFor cap (covered b)) b
+passed w cap b some e =
     let v = windowFor cap (covered b) in
-    let f = formed b (both-parts v b e .0) in
-    passed-in v b e (windowed-for cap (covered b) some (covered-some (f .power)))
+    let f = formed b (both-parts w v b e .0) in
+    passed-in v b w e (windowed-for cap (covered b) some (covered-some (f .power)))
 
 -- what comes after a block that is refused changes nothing; after one that passes it is answered
-later-none : (v : Window) (b : Block) (later : ℕ) → (blockRefusal v b 0 ≡ 0 → ⊥) → blockRefusal v b later ≡ blockRefusal v b 0
+pub later-none : (w : ℕ) (v : Window) (b : Block) (later : ℕ) → (blockRefusal w v b 0 ≡ 0 → ⊥) → blockRefusal w v b later ≡ blockRefusal w v b 0
 unfolding blockRefusal
-later-none v b later n = refused-first (formChecks b ++ contentChecks v b) later n
+later-none w v b later n = refused-first (formChecks b ++ laterChecks w v b) later n
 
-pub after-all : (v : Window) (b : Block) (later : ℕ) → blockRefusal v b 0 ≡ 0 → blockRefusal v b later ≡ later
+pub after-all : (w : ℕ) (v : Window) (b : Block) (later : ℕ) → blockRefusal w v b 0 ≡ 0 → blockRefusal w v b later ≡ later
 unfolding blockRefusal formChecks contentChecks
-after-all v b later e = all-pass (formChecks b ++ contentChecks v b) later refl e
+after-all w v b later e = all-pass (formChecks b ++ laterChecks w v b) later refl e
 
-pub none-fails : (v : Window) (b : Block) (later : ℕ) → blockRefusal v b later ≡ 0 → blockRefusal v b 0 ≡ 0
+pub none-fails : (w : ℕ) (v : Window) (b : Block) (later : ℕ) → blockRefusal w v b later ≡ 0 → blockRefusal w v b 0 ≡ 0
 unfolding blockRefusal formChecks contentChecks
-none-fails v b later e = none-refused (formChecks b ++ contentChecks v b) later refl e
+none-fails w v b later e = none-refused (formChecks b ++ laterChecks w v b) later refl e
 
--- ---- the refusals of a search, as its returns meet them
-module _ (v : Window) (book : Book) (b : Block) (room : Bool) where
-  pub refused-book : (bookRefusal book ≡ 0 → ⊥) → searchRefusal v book b room ≡ bookRefusal book
+-- ---- the refusals of a search: its book's, else its block's
+module _ (w : ℕ) (v : Window) (book : Book) (b : Block) (room : Bool) where
+  pub refused-book : (bookRefusal book ≡ 0 → ⊥) → searchRefusal w v book b room ≡ bookRefusal book
   unfolding searchRefusal
   refused-book n = rw (ne-eqb (bookRefusal book) 0 n)
 
-  module _ (ok : bookRefusal book ≡ 0) where
-    pub refused-block : (blockRefusal v b 0 ≡ 0 → ⊥) → searchRefusal v book b room ≡ blockRefusal v b 0
-    unfolding searchRefusal
-    refused-block n = rw (eq-eqb (bookRefusal book) 0 ok) (later-none v b (cond room 0 14) n)
-
-    pub refused-room : blockRefusal v b 0 ≡ 0 → searchRefusal v book b room ≡ cond room 0 14
-    unfolding searchRefusal
-    refused-room e = rw (eq-eqb (bookRefusal book) 0 ok) (after-all v b (cond room 0 14) e)
+  pub refused-block : bookRefusal book ≡ 0 → searchRefusal w v book b room ≡ blockRefusal w v b (cond room 0 14)
+  unfolding searchRefusal
+  refused-block ok = rw (eq-eqb (bookRefusal book) 0 ok)

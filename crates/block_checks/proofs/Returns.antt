@@ -1,9 +1,9 @@
 -- The returns of the checks: what was tested, as the definitions say it. Assumes nothing.
-use mathlib.Core.Path.{_≡_, sym, _∙_}
-use mathlib.Core.Bool.{Bool, true, false, not, _&&_, and-false}
+use mathlib.Core.Path.{_≡_}
+use mathlib.Core.Bool.{Bool, true, false, _&&_, and-false}
 use Prim.Native.Nat.{ℕ, _+_, _*_, _≤_}
 use native.Mathlib.Omega.{arith}
-use borrow.Author.Tests.{not-true, not-false, leb-true}
+use borrow.Author.Tests.{leb-true}
 use lib.Dec.{eqb, leb}
 use lib.ListN.{length, getD}
 use Rattle.ac_context.specs.Contexts.{isPowerBelow}
@@ -23,13 +23,6 @@ use Rattle.weights.specs.Window.{windowFor}
 use Rattle.weights.specs.declared.Window.{Window}
 use Rattle.block_checks.specs.Parts.{formRefusal, contentRefusal}
 use Rattle.block_checks.proofs.Laws.{formed, window-fits}
-
--- a test that the code turns round
-pub failed : {r a : Bool} → r ≡ a → not r ≡ true → a ≡ false
-failed {r} e t = sym e ∙ not-true r t
-
-pub held : {r a : Bool} → r ≡ a → not r ≡ false → a ≡ true
-held {r} e t = sym e ∙ not-false r t
 
 pub all-of : {a b c : Bool} (d : Bool) → a ≡ true → b ≡ true → c ≡ true → d ≡ (a && b && c && d)
 all-of d e f g = rw (e, f, g)

@@ -1,4 +1,4 @@
-// Checks 7 to 14 and 18, in the order in which they are made.
+// Checks 7 to 14, 18 and 26, in the order in which they are made.
 use bias::DequantBias;
 use block::Shape;
 use weights::Settings;
@@ -10,7 +10,7 @@ ghost use lib.IntN.{pos};
 ghost use lib.ListN.{length, getD};
 ghost use Rattle.ac_context.specs.Contexts.{isPowerBelow};
 ghost use Rattle.block.specs.Block.{blockOf, covered, idealAt};
-ghost use Rattle.block.specs.Checks.{blockRefusal, strategyCovered, enoughRoom};
+ghost use Rattle.block.specs.Checks.{blockRefusal, strategyCovered, validWidth, enoughRoom};
 ghost use Rattle.candidates.specs.Candidates.{isCurrent};
 ghost use Rattle.candidates.specs.Nearest.{isIdeal};
 ghost use Rattle.prices.specs.Checks.{each};
@@ -18,7 +18,7 @@ ghost use Rattle.scan.specs.Scan.{Perm, levelAt};
 ghost use Rattle.weights.specs.Window.{windowFor};
 ghost use Rattle.block_checks.specs.Parts.{formRefusal, contentRefusal};
 
-fn is_side(side: u32) -> bool
+pub fn is_side(side: u32) -> bool
     ensures { λ r. ⌜ r ≡ isPowerBelow 6 side ⌝ }
 {
     if side == 32 {
@@ -40,7 +40,7 @@ fn is_side(side: u32) -> bool
 }
 
 // Asked for sides that passed alone, so that the product fits.
-fn covered_blocks(cx: u32, cy: u32) -> usize
+pub fn covered_blocks(cx: u32, cy: u32) -> usize
     requires { ⌜ (isPowerBelow 6 cx ≡ true) × (isPowerBelow 6 cy ≡ true) ⌝ }
     ensures { λ r. ⌜ r ≡ cx * cy ⌝ }
 {
@@ -62,7 +62,7 @@ fn hold(n: usize, scan: &[u32], source: &[f32], inv_qm: &[f32], levels: &[i32]) 
     inv_qm.len() == n
 }
 
-fn is_coded(strategy: u8, channel: u8) -> bool
+pub fn is_coded(strategy: u8, channel: u8) -> bool
     ensures { λ r. ⌜ r ≡ (leb strategy 26 && leb channel 2) ⌝ }
 {
     if strategy > 26 {
@@ -109,7 +109,7 @@ fn wide(x: u16) -> usize
 }
 
 // Check 18.
-fn fits(strategy: u8, covered_blocks: usize) -> bool
+pub fn fits(strategy: u8, covered_blocks: usize) -> bool
     requires { ⌜ strategy ≤ 26 ⌝ }
     ensures { λ r. ⌜ r ≡ eqb «covered_blocks» (getD strategyCovered strategy 0) ⌝ }
 {
@@ -251,7 +251,17 @@ fn check_content(
     }
 }
 
-// Checks 7 to 13 and 18, in a window of at most `cap` positions: the number of the first that fails, or 0.
+// Check 26.
+fn valid_width(width: u32) -> bool
+    ensures { λ r. ⌜ r ≡ validWidth width ⌝ }
+{
+    if width == 0 {
+        return false;
+    }
+    width <= 12
+}
+
+// Checks 7 to 13, 18 and 26, with a band of half-width `width` and a window of at most `cap` positions: the number of the first that fails, or 0.
 pub fn check_block(
     shape: Shape,
     settings: Settings,
@@ -261,13 +271,17 @@ pub fn check_block(
     source: &[f32],
     inv_qm: &[f32],
     levels: &[i32],
+    width: u32,
     cap: usize,
 ) -> u32
-    ensures { λ r. ⌜ (let b = blockOf shape settings bias scale (now (scan .entry)) (now (source .entry)) (now («inv_qm» .entry)) (now (levels .entry)) in r ≡ blockRefusal (windowFor cap (covered b)) b 0) ⌝ }
+    ensures { λ r. ⌜ (let b = blockOf shape settings bias scale (now (scan .entry)) (now (source .entry)) (now («inv_qm» .entry)) (now (levels .entry)) in r ≡ blockRefusal width (windowFor cap (covered b)) b 0) ⌝ }
 {
     let first = check_form(shape, settings, bias, scale, scan, source, inv_qm, levels);
     if first != 0 {
         return first;
+    }
+    if !valid_width(width) {
+        return 26;
     }
     check_content(
         shape,
@@ -291,7 +305,7 @@ pub fn enough_room(
     row_a: usize,
     row_b: usize,
 ) -> bool
-    requires { ⌜ (bytes ≤ 64) × (window ≤ 1024) ⌝ }
+    requires { ⌜ (bytes ≤ 17179869184) × (window ≤ 1024) ⌝ }
     ensures { λ r. ⌜ r ≡ enoughRoom bytes floats window choices «row_a» «row_b» ⌝ }
 {
     if bytes * window > choices {

@@ -1,6 +1,7 @@
 // Single numbers of a record.
 use bias::DequantBias;
 use block::Shape;
+use weights::SearchSettings;
 use weights::Settings;
 ghost use mathlib.Core.Path.{_≡_};
 ghost use Prim.Native.Nat.{_+_, _<_, _≤_};
@@ -72,10 +73,10 @@ pub fn room_at(bytes: &[u8], at: usize, most: usize) -> usize
     if length < most { length } else { most }
 }
 
-// What a block's record holds before its rooms and lists.
+// What a block's record holds before its rooms and lists, with the half-width that was set before it.
 pub struct Head {
     pub shape: Shape,
-    pub settings: Settings,
+    pub settings: SearchSettings,
     pub bias: DequantBias,
     pub scale: f32,
 }
@@ -96,23 +97,26 @@ fn shape_at(bytes: &[u8]) -> Shape
     }
 }
 
-fn settings_at(bytes: &[u8]) -> Settings
+fn settings_at(bytes: &[u8], half_width: u32) -> SearchSettings
     requires { ⌜ 53 ≤ length (now bytes) ⌝ }
 {
-    Settings {
-        channel_weight: float_at(bytes, 13),
-        lambda: float_at(bytes, 17),
-        penalty: float_at(bytes, 21),
-        distance: float_at(bytes, 25),
+    SearchSettings {
+        weighing: Settings {
+            channel_weight: float_at(bytes, 13),
+            lambda: float_at(bytes, 17),
+            penalty: float_at(bytes, 21),
+            distance: float_at(bytes, 25),
+        },
+        half_width,
     }
 }
 
-pub fn head_at(bytes: &[u8]) -> Head
+pub fn head_at(bytes: &[u8], half_width: u32) -> Head
     requires { ⌜ 53 ≤ length (now bytes) ⌝ }
 {
     Head {
         shape: shape_at(bytes),
-        settings: settings_at(bytes),
+        settings: settings_at(bytes, half_width),
         bias: DequantBias {
             one: float_at(bytes, 29),
             numerator: float_at(bytes, 33),

@@ -4,7 +4,7 @@ use crate::fields::word_at;
 ghost use mathlib.Core.Path.{_≡_};
 ghost use Prim.Native.Nat.{_+_, _*_, _≤_};
 ghost use lib.ListN.{length};
-ghost use Rattle.block_file.specs.Within.{Within};
+ghost use Rattle.block_file.specs.Within.{Within, Measures};
 
 // The longest lists that are read: a book of 258 clusters and a block of 65,536 levels, and some entries more.
 pub const MAP: usize = 14912;
@@ -17,8 +17,8 @@ pub const READY: usize = 66048;
 
 pub const LEVELS: usize = 65600;
 
-// The longest rooms that are lent: the trellis needs 28,672 choice bytes at most, and rows of 28.
-pub const CHOICES: usize = 28736;
+// The longest rooms that are lent: the trellis needs 26,624 choice bytes at most, and rows of 52.
+pub const CHOICES: usize = 26688;
 
 pub const ROW: usize = 64;
 
@@ -187,12 +187,17 @@ pub fn block_record(bytes: &[u8]) -> BlockRecord
     }
 }
 
+// The length of a half-width's record: tag and number.
+pub const WIDTH_RECORD: usize = 5;
+
 // Kinds of record. A record is unreadable where its tag is unknown, or one of its lists or rooms longer than may be.
 pub const BOOK: u8 = 3;
 
 pub const BLOCK: u8 = 4;
 
 pub const UNREADABLE: u8 = 5;
+
+pub const WIDTH: u8 = 6;
 
 // What bytes begin with: a record of this kind and length; or SHORT or UNREADABLE, with length 0.
 pub struct Measured {
@@ -202,7 +207,7 @@ pub struct Measured {
 
 // The record of this kind whose last list is this.
 fn ended_by(last: List, kind: u8) -> Measured
-    ensures { λ r. ⌜ (r .length ≤ last .end) × ((r .kind ≡ 3 → kind ≡ 3) × (r .kind ≡ 4 → kind ≡ 4)) ⌝ }
+    ensures { λ r. ⌜ (r .length ≤ last .end) × ((r .kind ≡ 3 → kind ≡ 3) × ((r .kind ≡ 4 → kind ≡ 4) × (r .kind ≡ 6 → kind ≡ 6))) ⌝ }
 {
     if last.state == WHOLE {
         return Measured {
@@ -223,7 +228,7 @@ fn ended_by(last: List, kind: u8) -> Measured
 }
 
 fn measure_book(bytes: &[u8]) -> Measured
-    ensures { λ r. ⌜ (r .length ≤ length (now (bytes .entry))) × ((r .kind ≡ 3 → 5 ≤ length (now (bytes .entry))) × (r .kind ≡ 4 → 53 ≤ length (now (bytes .entry)))) ⌝ }
+    ensures { λ r. ⌜ Measures (now (bytes .entry)) r ⌝ }
 {
     if bytes.len() < BOOK_HEAD {
         return Measured {
@@ -236,7 +241,7 @@ fn measure_book(bytes: &[u8]) -> Measured
 }
 
 fn measure_block(bytes: &[u8]) -> Measured
-    ensures { λ r. ⌜ (r .length ≤ length (now (bytes .entry))) × ((r .kind ≡ 3 → 5 ≤ length (now (bytes .entry))) × (r .kind ≡ 4 → 53 ≤ length (now (bytes .entry)))) ⌝ }
+    ensures { λ r. ⌜ Measures (now (bytes .entry)) r ⌝ }
 {
     if bytes.len() < HEAD {
         return Measured {
@@ -248,9 +253,25 @@ fn measure_block(bytes: &[u8]) -> Measured
     ended_by(lists.inverse, BLOCK)
 }
 
+// A tag and a half-width.
+fn measure_width(bytes: &[u8]) -> Measured
+    ensures { λ r. ⌜ Measures (now (bytes .entry)) r ⌝ }
+{
+    if bytes.len() < WIDTH_RECORD {
+        return Measured {
+            kind: SHORT,
+            length: 0,
+        };
+    }
+    Measured {
+        kind: WIDTH,
+        length: WIDTH_RECORD,
+    }
+}
+
 // The record that `bytes` begins with. A book's is at least BOOK_HEAD bytes long and a block's HEAD.
 pub fn measure(bytes: &[u8]) -> Measured
-    ensures { λ r. ⌜ (r .length ≤ length (now (bytes .entry))) × ((r .kind ≡ 3 → 5 ≤ length (now (bytes .entry))) × (r .kind ≡ 4 → 53 ≤ length (now (bytes .entry)))) ⌝ }
+    ensures { λ r. ⌜ Measures (now (bytes .entry)) r ⌝ }
 {
     if bytes.len() == 0 {
         return Measured {
@@ -263,6 +284,9 @@ pub fn measure(bytes: &[u8]) -> Measured
     }
     if bytes[0] == b'C' {
         return measure_block(bytes);
+    }
+    if bytes[0] == b'W' {
+        return measure_width(bytes);
     }
     Measured {
         kind: UNREADABLE,

@@ -4,32 +4,16 @@ pub mod candidate_list;
 use bias::DequantBias;
 use block::Shape;
 use c_answers::tell_answer;
-use searches::Search;
+use weights::SearchSettings;
 use weights::Settings;
-ghost use mathlib.Core.Path.{_≡_};
 ghost use Rattle.block.specs.Block.{blockOf};
 ghost use Rattle.block.specs.Outcome.{lentOf};
 ghost use Rattle.prices.specs.Book.{bookOf};
 ghost use Rattle.c_answers.specs.Parts.{shapeOf, settingsOf, biasOf};
-ghost use Rattle.c_search.specs.Search.{Promised, replyOf, searchNamed};
+ghost use Rattle.c_named.specs.Named.{replyOf};
+ghost use Rattle.c_search.specs.Search.{Promised};
 
-// The code for a number that names no search.
-pub const NO_SEARCH: u32 = 17;
-
-// The search that 0, 1 or 2 names.
-fn named(search: u32) -> Search
-    ensures { λ r. ⌜ r ≡ searchNamed search ⌝ }
-{
-    if search == 0 {
-        return Search::Greedy;
-    }
-    if search == 1 {
-        return Search::Beam;
-    }
-    Search::Trellis
-}
-
-// Re-picks the levels of a block: 0 is greedy, 1 the beam, 2 the trellis.
+// Re-picks the levels of a block: 0 is greedy, 1 the beam, 2 the trellis, 3 the trellis by the unfactored walk.
 #[no_mangle]
 pub extern "C" fn rdoq_block(
     search: u32,
@@ -48,6 +32,7 @@ pub extern "C" fn rdoq_block(
     lambda: f32,
     penalty: f32,
     distance: f32,
+    half_width: u32,
     one: f32,
     numerator: f32,
     scale: f32,
@@ -61,18 +46,18 @@ pub extern "C" fn rdoq_block(
     cost: &mut f32,
     count: &mut u32,
 ) -> u32
-    ensures { λ r. ⌜ Promised search
+    ensures { λ r. ⌜ Promised search «half_width»
         (bookOf clusters (now (map .entry)) (now (configs .entry)) (now (symbols .entry)) (now (ready .entry)))
         (blockOf (shapeOf cx cy strategy channel «qf_hi» predicted) (settingsOf «channel_weight» lambda penalty distance) (biasOf one numerator) scale
         (now (scan .entry)) (now (source .entry)) (now («inv_qm» .entry)) (now (levels .entry)))
         (lentOf (now (levels .entry)) (now (choices .entry)) (now («row_a» .entry)) (now («row_b» .entry))) (now (cost .entry)) (now (count .entry))
         (replyOf r (now (cost .exit)) (now (count .exit)) (lentOf (now (levels .exit)) (now (choices .exit)) (now («row_a» .exit)) (now («row_b» .exit)))) ⌝ }
 {
-    if search > 2 {
-        return NO_SEARCH;
+    if search > 3 {
+        return c_named::NO_SEARCH;
     }
     let answer = searches::rdoq_block(
-        named(search),
+        c_named::named(search),
         clusters,
         map,
         configs,
@@ -86,11 +71,14 @@ pub extern "C" fn rdoq_block(
             qf_hi,
             predicted,
         },
-        Settings {
-            channel_weight,
-            lambda,
-            penalty,
-            distance,
+        SearchSettings {
+            weighing: Settings {
+                channel_weight,
+                lambda,
+                penalty,
+                distance,
+            },
+            half_width,
         },
         DequantBias { one, numerator },
         scale,

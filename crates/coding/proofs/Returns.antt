@@ -1,21 +1,14 @@
 -- The returns of checks 1 to 4: what was tested, as the definition says it. Assumes nothing.
-use mathlib.Core.Path.{_≡_, sym, _∙_}
-use mathlib.Core.Bool.{Bool, true, false, not, _&&_, and-false}
+use mathlib.Core.Path.{_≡_}
+use mathlib.Core.Bool.{Bool, true, false, _&&_}
 use Prim.Native.Nat.{ℕ, _*_, _≤_, _<_}
-use borrow.Author.Tests.{eq-eqb, ne-eqb, le-leb, lt-leb, not-true, not-false}
+use borrow.Author.Tests.{eq-eqb, ne-eqb, le-leb, lt-leb}
 use lib.Dec.{eqb, leb}
 use lib.ListN.{length}
 use Rattle.laws.specs.Refusals.{firstRefused}
 use Rattle.prices.specs.Book.{clusterValid}
 use Rattle.prices.specs.Checks.{each, mapBelow}
 use Rattle.coding.specs.Coding.{Coding, codingChecks}
-
--- a test that the code turns round
-pub failed : {r a : Bool} → r ≡ a → not r ≡ true → a ≡ false
-failed {r} e t = sym e ∙ not-true r t
-
-pub held : {r a : Bool} → r ≡ a → not r ≡ false → a ≡ true
-held {r} e t = sym e ∙ not-false r t
 
 module _ (k : Coding) (others : Bool) where
   pub at1-map : (length (k .map) ≡ 14850 → ⊥) → 1 ≡ firstRefused (codingChecks k others) 0

@@ -14,7 +14,7 @@ use lib.Ieee.{Float, inf, lt}
 use Rattle.block.specs.Band.{halfWidth, inputAfter}
 use Rattle.block.specs.Block.{Block, withLevels, covered, inputAt, inputRemaining, nonzerosAmong, ideal, candidatesAt}
 use Rattle.block.specs.Choice.{IsChoice}
-use Rattle.block.specs.Checks.{blockRefusal}
+use Rattle.block.specs.Checks.{blockRefusal, validWidth}
 use Rattle.block.specs.Cost.{firstPrev}
 use Rattle.block.specs.Outcome.{RefusedKeeps}
 use Rattle.block.specs.declared.Answer.the-variants.{Count, Refused}
@@ -24,14 +24,14 @@ use Rattle.greedy_cost.specs.Run.{runStart}
 use Rattle.least_cost.specs.Position.{nz}
 use Rattle.least_cost.specs.Search.{holder}
 use Rattle.prices.specs.Book.{Book}
-use Rattle.problem.proofs.Refusals.{searched}
+use Rattle.problem.proofs.Refusals.{searched, width-free}
 use Rattle.problem.proofs.Written.{is-choice}
 use Rattle.scan.specs.Scan.{Perm, levelAt}
 use Rattle.scan.proofs.Through.{level-same, level-other}
 use Rattle.weights.specs.Window.{windowFor}
 use Rattle.weights.specs.declared.Window.{Window}
 use Rattle.weights.proofs.Lengths.{whole-window}
-use Rattle.greedy.specs.Greedy.{Outcome, othersOf, greedyCost, stays, chosen, settledAt, settledFrom, greedyLevels, outcomeOf, refusal, greedyOutcome, CountAnswered, PromisedIn, Promised}
+use Rattle.greedy.specs.Greedy.{Outcome, othersOf, greedyCost, stays, chosen, settledAt, settledFrom, greedyLevels, outcomeOf, searchedOutcome, refusal, greedyOutcome, CountAnswered, PromisedIn, Promised}
 use Rattle.steps.proofs.Ordered.{among-split}
 
 -- ---- the first least is listed where the level to fall back on is
@@ -110,26 +110,34 @@ greedy-choice w v book b a =
     own i h = first-listed _ _ (candidates-listed (ideal b i) (inputAt b (covered b + i)) (ltb i (v .restoring)) (a .ideals i h) (a .current (covered b + i) (omega arith) (omega (arith, a .window .fits))))
 
 -- ---- whatever equals the outcome meets the whole contract
-block-passes : (v : Window) (book : Book) (b : Block) → refusal v book b ≡ 0 → blockRefusal v b 0 ≡ 0
+block-passes : (w : ℕ) (v : Window) (book : Book) (b : Block) → refusal w v book b ≡ 0 → blockRefusal w v b 0 ≡ 0
 unfolding refusal
-block-passes v book b e = searched v book b true e .1 .0
+block-passes w v book b e = searched w v book b true e .1 .0
 
-pub promised : (v : Window) (book : Book) (b : Block) → (blockRefusal v b 0 ≡ 0 → Passed v b) → {after : Outcome} → after ≡ greedyOutcome v book b → PromisedIn v book b after
-unfolding greedyOutcome
-promised v book b within e =
+same-outcome : (w n : ℕ) (v : Window) (book : Book) (b : Block) → validWidth w ≡ true → validWidth n ≡ true → greedyOutcome w v book b ≡ greedyOutcome n v book b
+unfolding greedyOutcome refusal
+same-outcome w n v book b e f =
+    ap (λ (r : ℕ). cond (eqb r 0) (searchedOutcome v book b) (outcomeOf (Refused r) (b .levels))) (width-free w n v book b true e f)
+
+-- by whether the checks let it pass
+abbrev ended : ℕ → Window → Book → Block → Bool → Outcome
+ended w v book b t = cond t (searchedOutcome v book b) (outcomeOf (Refused (refusal w v book b)) (b .levels))
+
+pub promised : (w : ℕ) (v : Window) (book : Book) (b : Block) → (blockRefusal w v b 0 ≡ 0 → Passed v b) → {after : Outcome} → after ≡ greedyOutcome w v book b → PromisedIn w v book b after
+unfolding greedyOutcome searchedOutcome
+promised w v book b within e =
     record {
       outcome = e;
+      any-width = λ n f g. e ∙ same-outcome w n v book b f g;
       counted = subst⁻¹ (λ (r : Outcome). CountAnswered v book b (r .levels) (r .answer)) e (both .0);
       keeps = subst⁻¹ (λ (r : Outcome). RefusedKeeps b (r .levels) (r .answer)) e (both .1);
     }
   where
-    go : (t : Bool) → eqb (refusal v book b) 0 ≡ t
-        → CountAnswered v book b (cond t (outcomeOf (Count (inputRemaining (withLevels b (greedyLevels v book b)) (covered b))) (greedyLevels v book b)) (outcomeOf (Refused (refusal v book b)) (b .levels)) .levels) (cond t (outcomeOf (Count (inputRemaining (withLevels b (greedyLevels v book b)) (covered b))) (greedyLevels v book b)) (outcomeOf (Refused (refusal v book b)) (b .levels)) .answer)
-        × RefusedKeeps b (cond t (outcomeOf (Count (inputRemaining (withLevels b (greedyLevels v book b)) (covered b))) (greedyLevels v book b)) (outcomeOf (Refused (refusal v book b)) (b .levels)) .levels) (cond t (outcomeOf (Count (inputRemaining (withLevels b (greedyLevels v book b)) (covered b))) (greedyLevels v book b)) (outcomeOf (Refused (refusal v book b)) (b .levels)) .answer)
+    go : (t : Bool) → eqb (refusal w v book b) 0 ≡ t → CountAnswered v book b (ended w v book b t .levels) (ended w v book b t .answer) × RefusedKeeps b (ended w v book b t .levels) (ended w v book b t .answer)
     go true h = (
       λ n k.
           let count : n ≡ inputRemaining (withLevels b (greedyLevels v book b)) (covered b) = cc in
-          (greedy-choice halfWidth v book b (within (block-passes v book b (eqb-true _ 0 h))), count),
+          (greedy-choice halfWidth v book b (within (block-passes w v book b (eqb-true _ 0 h))), count),
       λ n k.
           let bad : _≡_ {A = ℕ} 0 1 = cc in
           absurd (omega arith),
@@ -141,12 +149,12 @@ promised v book b within e =
       λ n k. refl,
     )
 
-    both : CountAnswered v book b (greedyOutcome v book b .levels) (greedyOutcome v book b .answer) × RefusedKeeps b (greedyOutcome v book b .levels) (greedyOutcome v book b .answer)
-    both = go (eqb (refusal v book b) 0) refl
+    both : CountAnswered v book b (greedyOutcome w v book b .levels) (greedyOutcome w v book b .answer) × RefusedKeeps b (greedyOutcome w v book b .levels) (greedyOutcome w v book b .answer)
+    both = go (eqb (refusal w v book b) 0) refl
 
 -- document 01's window
-pub whole : {book : Book} {b : Block} {r : Outcome} → PromisedIn (windowFor 1024 (covered b)) book b r → Promised book b r
-whole {book} {b} {r} P = subst (λ (v : Window). PromisedIn v book b r) (whole-window (covered b)) P
+pub whole : {w : ℕ} {book : Book} {b : Block} {r : Outcome} → PromisedIn w (windowFor 1024 (covered b)) book b r → Promised w book b r
+whole {w} {book} {b} {r} P = subst (λ (v : Window). PromisedIn w v book b r) (whole-window (covered b)) P
 
 -- ---- `prev` of a run's first zero is 1 at the first position too: where no nonzero level stands behind the run, the whole count is 1
 all-zero : (scan : List ℕ) (levels : List ℤ) (c i : ℕ) → runStart scan levels c i ≡ 0 → nonzerosAmong scan levels c i ≡ 0

@@ -30,7 +30,7 @@ use Rattle.steps.specs.declared.reading.Plan.{Plan}
 use Rattle.weights.specs.Window.{windowFor}
 use Rattle.weights.specs.declared.Window.{Window}
 use Rattle.greedy.specs.declared.pass.Counts.{Counts}
-use Rattle.greedy.specs.Greedy.{settledAt, settledFrom, greedyLevels, outcomeOf, refusal, greedyOutcome}
+use Rattle.greedy.specs.Greedy.{settledAt, settledFrom, greedyLevels, Outcome, outcomeOf, searchedOutcome, refusal, greedyOutcome}
 use Rattle.greedy.specs.Reading.{Fitting, Ready, countFrom}
 
 -- ---- the counts at the window's end
@@ -142,44 +142,25 @@ module _ {book : Book} {b : Block} {p : Plan} (K : Checked book b p) where
         ideals = λ i h. rw (w .covered-is, w .source-is) (a .ideals i h);
       }
 
-module _ (v : Window) (book : Book) (b : Block) where
-  pub refused-outcome : {n : ℕ} → n ≡ refusal v book b → (n ≡ 0 → ⊥) → outcomeOf (Refused n) (b .levels) ≡ greedyOutcome v book b
-  unfolding greedyOutcome
-  refused-outcome e some = rw (ne-eqb (refusal v book b) 0 (λ z. some (e ∙ z))) (ap (λ (m : ℕ). outcomeOf (Refused m) (b .levels)) e)
+-- refused by a check
+pub refused-outcome : (w : ℕ) (v : Window) (book : Book) (b : Block) {n : ℕ} → n ≡ refusal w v book b → (n ≡ 0 → ⊥) → outcomeOf (Refused n) (b .levels) ≡ greedyOutcome w v book b
+unfolding greedyOutcome
+refused-outcome w v book b e some = rw (ne-eqb (refusal w v book b) 0 (λ z. some (e ∙ z))) (ap (λ (m : ℕ). outcomeOf (Refused m) (b .levels)) e)
 
-  -- what the checks let pass
-  pub accepted-book : refusal v book b ≡ 0 → bookRefusal book ≡ 0
-  unfolding refusal
-  accepted-book e = searched v book b true e .0
+-- let pass, and settled
+pub settled-outcome : (v : Window) (book : Book) {b : Block} {p : Plan} {levels : List ℤ} {count : ℕ} → Planned b p → p .window ≡ v
+    → levels ≡ greedyLevels (p .window) book b → count ≡ countFrom (b .scan) levels (p .covered) (p .covered) → outcomeOf (Count count) levels ≡ searchedOutcome v book b
+unfolding searchedOutcome inputRemaining covered
+settled-outcome v book {b} {p} {levels} {count} w ev el ec =
+    let found : levels ≡ greedyLevels v book b = rw ev at el in
+    rw (← found) (ap (λ (n : ℕ). outcomeOf (Count n) levels) (ec ∙ rw (w .covered-is)))
 
-  pub settled-outcome : {p : Plan} {levels : List ℤ} {count : ℕ} → refusal v book b ≡ 0 → Planned b p → p .window ≡ v
-      → levels ≡ greedyLevels (p .window) book b → count ≡ countFrom (b .scan) levels (p .covered) (p .covered) → outcomeOf (Count count) levels ≡ greedyOutcome v book b
-  unfolding greedyOutcome inputRemaining covered
-  settled-outcome {p} {levels} {count} none w ev el ec =
-      let found : levels ≡ greedyLevels v book b = rw ev at el in
-      rw (eq-eqb (refusal v book b) 0 none, ← found) (ap (λ (n : ℕ). outcomeOf (Count n) levels) (ec ∙ rw (w .covered-is)))
+pub let-pass : (w : ℕ) (v : Window) (book : Book) (b : Block) → refusal w v book b ≡ 0 → {after : Outcome} → after ≡ searchedOutcome v book b → after ≡ greedyOutcome w v book b
+unfolding greedyOutcome
+let-pass w v book b none e = rw (eq-eqb (refusal w v book b) 0 none) e
 
-pub accepted-block : (cap : ℕ) (book : Book) (b : Block) → 0 < cap → refusal (windowFor cap (covered b)) book b ≡ 0 → Passed (windowFor cap (covered b)) b
+pub by-check : (w : ℕ) (v : Window) (book : Book) (b : Block) {n : ℕ} → n ≡ searchRefusal w v book b (enoughRoom 0 0 (v .length) 0 0 0) → n ≡ refusal w v book b
 unfolding refusal
-accepted-block cap book b some e = passed cap b some (searched (windowFor cap (covered b)) book b true e .1 .0)
-
-pub by-check : (v : Window) (book : Book) (b : Block) {n : ℕ} → n ≡ searchRefusal v book b (enoughRoom 0 0 (v .length) 0 0 0) → n ≡ refusal v book b
-unfolding refusal
-by-check v book b e =
+by-check w v book b e =
     let none : enoughRoom 0 0 (v .length) 0 0 0 ≡ true = no-rows 0 (v .length) 0 0 0 ∙ ap (λ (n : ℕ). leb n 0) (zero-mul (v .length)) in
-    e ∙ ap (searchRefusal v book b) none
-
--- a block that passed, and its plan
-pub checked-of : (cap : ℕ) (book : Book) (b : Block) → 0 < cap → refusal (windowFor cap (covered b)) book b ≡ 0 → {p : Plan} → Planned b p → Coded p → p .window ≡ windowFor cap (b .shape .cx * b .shape .cy) → Checked book b p
-unfolding covered
-checked-of cap book b some none planned coded ev =
-    record {
-      book-passed = accepted-book _ book b none;
-      passed = subst⁻¹ (λ (v : Window). Passed v b) ev (accepted-block cap book b some none);
-      planned = planned;
-      coded = coded;
-    }
-
-pub window-of : (cap : ℕ) (b : Block) {v : Window} → v ≡ windowFor cap (b .shape .cx * b .shape .cy) → v ≡ windowFor cap (covered b)
-unfolding covered
-window-of cap b e = e
+    e ∙ ap (searchRefusal w v book b) none

@@ -10,7 +10,7 @@ use lib.ListN.{getD, length, set}
 use lib.Ieee.{Float, inf}
 use Rattle.block.specs.Band.{halfWidth, inputAfter}
 use Rattle.block.specs.Block.{Block, withLevels, covered, inputAt, inputRemaining, nonzerosAmong, candidatesAt}
-use Rattle.block.specs.Checks.{searchRefusal}
+use Rattle.block.specs.Checks.{searchRefusal, validWidth}
 use Rattle.block.specs.Choice.{IsChoice}
 use Rattle.block.specs.Outcome.{RefusedKeeps}
 use Rattle.block.specs.declared.Answer.{Answer}
@@ -75,17 +75,19 @@ pub record Outcome : Type 0 where
 abbrev pub outcomeOf : Answer → List ℤ → Outcome
 outcomeOf answer levels = record { answer = answer; levels = levels }
 
--- the first of checks 1 to 13 that refuses; 0 where none does
-unfoldable pub refusal : Window → Book → Block → ℕ
-refusal v book b = searchRefusal v book b true
-
--- The count of nonzero levels from scan position c on; a refusal by one of checks 1 to 13 changes no level.
-unfoldable pub greedyOutcome : Window → Book → Block → Outcome
-greedyOutcome v book b =
+-- of a block that passed its checks: the count of nonzero levels from scan position c on, and the levels
+unfoldable pub searchedOutcome : Window → Book → Block → Outcome
+searchedOutcome v book b =
     let levels = greedyLevels v book b in
-    cond (eqb (refusal v book b) 0)
-    (outcomeOf (Count (inputRemaining (withLevels b levels) (covered b))) levels)
-    (outcomeOf (Refused (refusal v book b)) (b .levels))
+    outcomeOf (Count (inputRemaining (withLevels b levels) (covered b))) levels
+
+-- the first check that refuses; 0 where none does. Greedy asks for no room, and its half-width w is checked all the same.
+unfoldable pub refusal : ℕ → Window → Book → Block → ℕ
+refusal w v book b = searchRefusal w v book b true
+
+-- A refusal changes no level.
+unfoldable pub greedyOutcome : ℕ → Window → Book → Block → Outcome
+greedyOutcome w v book b = cond (eqb (refusal w v book b) 0) (searchedOutcome v book b) (outcomeOf (Refused (refusal w v book b)) (b .levels))
 
 -- What an answered count says of the levels written: they are a choice, and the count is theirs. (A choice has no half-width: any will do.)
 abbrev pub CountAnswered : Window → Book → Block → List ℤ → Answer → Type 0
@@ -93,14 +95,16 @@ CountAnswered v book b written answer =
     (count : ℕ) → answer ≡ Count count → IsChoice halfWidth v book b written × (count ≡ inputRemaining (withLevels b written) (covered b))
 
 -- What greedy promises of a book and a block: `after` is its answer, and the levels that it leaves.
-pub record PromisedIn (v : Window) (book : Book) (b : Block) (after : Outcome) : Type 0 where
+pub record PromisedIn (w : ℕ) (v : Window) (book : Book) (b : Block) (after : Outcome) : Type 0 where
   -- the answer and every level
-  pub outcome : after ≡ greedyOutcome v book b
+  pub outcome : after ≡ greedyOutcome w v book b
+  -- .. which are the same for every half-width in range
+  pub any-width : (n : ℕ) → validWidth w ≡ true → validWidth n ≡ true → after ≡ greedyOutcome n v book b
   -- the count is the levels'
   pub counted : CountAnswered v book b (after .levels) (after .answer)
   -- a refused block keeps every level
   pub keeps : RefusedKeeps b (after .levels) (after .answer)
 
 -- with document 01's window
-abbrev pub Promised : Book → Block → Outcome → Type 0
-Promised book b after = PromisedIn (windowOf (covered b)) book b after
+abbrev pub Promised : ℕ → Book → Block → Outcome → Type 0
+Promised w book b after = PromisedIn w (windowOf (covered b)) book b after

@@ -11,7 +11,7 @@ carry {n} {n′} {m} {m′} {s} e f h = subst (λ (k : ℕ). Sound k m′ s) e (
 pub wider : (n m : ℕ) {s : State} → Sound 0 0 s → Sound n m s
 wider n m h =
     record {
-      held = record { inside = h .held .inside; room = omega (arith, h .held .room); book = h .held .book; block = h .held .block };
+      held = record { inside = h .held .inside; room = omega (arith, h .held .room); book = h .held .book; block = h .held .block; width = h .held .width };
       used = omega (arith, h .used);
       map = h .map;
       configs = h .configs;

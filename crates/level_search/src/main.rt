@@ -1,4 +1,4 @@
-// Reads a block file on standard input. For each block prints three lines, one for each search: what it answers and which levels it changes.
+// Reads a block file on standard input. For each block prints a line for each search: what it answers and which levels it changes.
 // A record that is cut short, has an unknown tag or asks for more than the program holds (see `block_file::record`) ends the run with a line that names its
 // first byte. A byte other than 0 says the high quant class.
 mod input;
@@ -13,11 +13,12 @@ use block_file::record;
 use block_file::record::BlockRecord;
 use input::Held;
 use libc::STDOUT_FILENO;
+use weights::HALF_WIDTH;
 ghost use mathlib.Core.Path.{_≡_};
 ghost use Prim.Native.Nat.{_≤_};
 ghost use lib.ListN.{length};
 ghost use Rattle.block_file.specs.Within.{Within};
-ghost use Rattle.level_search.specs.Held.{Sound};
+ghost use Rattle.level_search.specs.Held.{HeldIn, Sound};
 
 // The lengths of the latest book's lists, and its number of clusters.
 struct Lengths {
@@ -81,7 +82,7 @@ struct Rooms {
 
 fn rooms_at(bytes: &[u8]) -> Rooms
     requires { ⌜ 53 ≤ length (now bytes) ⌝ }
-    ensures { λ r. ⌜ (r .choices ≤ 28736) × ((r .«row_a» ≤ 64) × (r .«row_b» ≤ 64)) ⌝ }
+    ensures { λ r. ⌜ (r .choices ≤ 26688) × ((r .«row_a» ≤ 64) × (r .«row_b» ≤ 64)) ⌝ }
 {
     Rooms {
         choices: fields::room_at(bytes, 41, record::CHOICES),
@@ -145,9 +146,10 @@ fn search_block(
     )
 }
 
-// Searches the block of a record three times and prints a line for each. Answers how much of `out` is used then.
+// Searches the block of a record by each search and prints a line for each. Answers how much of `out` is used then.
 fn take_block(
     bytes: &[u8],
+    half_width: u32,
     number: u64,
     clusters: u32,
     map: &[u8],
@@ -167,11 +169,11 @@ fn take_block(
 ) -> usize
     requires { ⌜ 53 ≤ length (now bytes) ⌝ }
     requires { ⌜ (65600 ≤ length (now levels)) × ((65600 ≤ length (now scan)) × ((65600 ≤ length (now source)) × (65600 ≤ length (now «inv_qm»)))) ⌝ }
-    requires { ⌜ (65600 ≤ length (now work)) × ((28736 ≤ length (now choices)) × ((64 ≤ length (now «row_a»)) × (64 ≤ length (now «row_b»)))) ⌝ }
+    requires { ⌜ (65600 ≤ length (now work)) × ((26688 ≤ length (now choices)) × ((64 ≤ length (now «row_a»)) × (64 ≤ length (now «row_b»)))) ⌝ }
     requires { ⌜ (80 ≤ length (now out)) × (used ≤ length (now out)) ⌝ }
     ensures { λ r. ⌜ r ≤ length (now (out .entry)) ⌝ }
 {
-    let head = fields::head_at(bytes);
+    let head = fields::head_at(bytes, half_width);
     let rooms = rooms_at(bytes);
     let lists = record::block_record(bytes);
     load_block(bytes, lists, levels, scan, source, inv_qm);
@@ -198,15 +200,16 @@ fn take_block(
     )
 }
 
-// Where the program stands: the record that is held, the latest book, the next block's number, and how much of `out` is used.
+// Where the program stands: the record that is held, the latest book and half-width, the next block's number, and how much of `out` is used.
 struct State {
     held: Held,
     book: Lengths,
+    half_width: u32,
     number: u64,
     used: usize,
 }
 
-// Takes the record that is held.
+// Takes the book or the block that is held; a half-width is taken as soon as it is.
 fn take_record(
     input: &[u8],
     map: &mut [u8],
@@ -227,7 +230,7 @@ fn take_record(
     requires { ⌜ Sound (length (now input)) (length (now out)) state ⌝ }
     requires { ⌜ (14912 ≤ length (now map)) × ((774 ≤ length (now configs)) × ((33024 ≤ length (now symbols)) × (66048 ≤ length (now ready)))) ⌝ }
     requires { ⌜ (65600 ≤ length (now levels)) × ((65600 ≤ length (now scan)) × ((65600 ≤ length (now source)) × (65600 ≤ length (now «inv_qm»)))) ⌝ }
-    requires { ⌜ (65600 ≤ length (now work)) × ((28736 ≤ length (now choices)) × ((64 ≤ length (now «row_a»)) × (64 ≤ length (now «row_b»)))) ⌝ }
+    requires { ⌜ (65600 ≤ length (now work)) × ((26688 ≤ length (now choices)) × ((64 ≤ length (now «row_a»)) × (64 ≤ length (now «row_b»)))) ⌝ }
     requires { ⌜ 80 ≤ length (now out) ⌝ }
     ensures { λ r. ⌜ Sound (length (now (input .entry))) (length (now (out .entry))) r ⌝ }
 {
@@ -240,6 +243,7 @@ fn take_record(
         return State {
             held,
             book: next,
+            half_width: state.half_width,
             number: state.number,
             used: state.used,
         };
@@ -251,6 +255,7 @@ fn take_record(
         let of_ready = book.ready;
         let used = take_block(
             &input[start..end],
+            state.half_width,
             state.number,
             book.clusters,
             &map[..of_map],
@@ -271,6 +276,7 @@ fn take_record(
         return State {
             held,
             book,
+            half_width: state.half_width,
             number: std::num::wrapping_add_u64(state.number, 1),
             used,
         };
@@ -278,16 +284,29 @@ fn take_record(
     state
 }
 
+// The half-width that the record held sets, or else the one before it.
+fn width_after(input: &[u8], held: Held, before: u32) -> u32
+    requires { ⌜ HeldIn (length (now input)) held ⌝ }
+{
+    if held.kind != record::WIDTH {
+        return before;
+    }
+    let start = held.start;
+    let end = held.end;
+    fields::word_at(&input[start..end], 1)
+}
+
 // The state with the next record held.
 fn advance(input: &mut [u8], room: usize, state: State) -> State
     requires { ⌜ Sound (length (now input)) room state ⌝ }
     ensures { λ r. ⌜ Sound (length (now (input .entry))) room r ⌝ }
 {
-    let held = state.held;
+    let held = input::next_record(input, state.held);
     let book = state.book;
     State {
-        held: input::next_record(input, held),
+        held,
         book,
+        half_width: width_after(input, held, state.half_width),
         number: state.number,
         used: state.used,
     }
@@ -311,6 +330,7 @@ fn beginning() -> State
             symbols: 0,
             ready: 0,
         },
+        half_width: HALF_WIDTH,
         number: 0,
         used: 0,
     }
@@ -329,6 +349,9 @@ fn finish(out: &[u8], state: State)
 
 fn is_record(kind: u8) -> bool {
     if kind == record::BOOK {
+        return true;
+    }
+    if kind == record::WIDTH {
         return true;
     }
     kind == record::BLOCK

@@ -51,10 +51,10 @@ pub fn floats() -> [f32; 65600]
     [0.0; 65600]
 }
 
-pub fn choices() -> [u8; 28736]
-    ensures { λ r. ⌜ 28736 ≡ length r ⌝ }
+pub fn choices() -> [u8; 26688]
+    ensures { λ r. ⌜ 26688 ≡ length r ⌝ }
 {
-    [0; 28736]
+    [0; 26688]
 }
 
 pub fn row() -> [f32; 64]

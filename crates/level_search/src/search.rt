@@ -1,4 +1,4 @@
-// The three searches of one block.
+// The searches of one block.
 use crate::output;
 use block::Answer;
 use block_file::fields::Head;
@@ -11,6 +11,8 @@ ghost use lib.ListN.{length};
 const GREEDY: u32 = 0;
 
 const BEAM: u32 = 1;
+
+const TRELLIS: u32 = 2;
 
 fn copy_levels(from: &[i32], to: &mut [i32])
     requires { ⌜ length (now from) ≤ length (now to) ⌝ }
@@ -27,7 +29,10 @@ fn search_of(search: u32) -> Search {
     if search == BEAM {
         return Search::Beam;
     }
-    Search::Trellis
+    if search == TRELLIS {
+        return Search::Trellis;
+    }
+    Search::Unfactored
 }
 
 fn run(
@@ -91,7 +96,10 @@ fn print_line(
     if search == BEAM {
         return output::print_line(out, used, number, b" Beam ", answer, levels, work);
     }
-    output::print_line(out, used, number, b" Trellis ", answer, levels, work)
+    if search == TRELLIS {
+        return output::print_line(out, used, number, b" Trellis ", answer, levels, work);
+    }
+    output::print_line(out, used, number, b" Unfactored ", answer, levels, work)
 }
 
 // Runs one search on a copy of the levels and prints its line.
@@ -164,7 +172,7 @@ pub fn search_all(
     ensures { λ r. ⌜ r ≤ length (now (out .entry)) ⌝ }
 {
     let mut end = used;
-    for search in 0..3 {
+    for search in 0..4 {
         end = search_one(
             search,
             number,

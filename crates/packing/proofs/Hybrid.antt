@@ -11,8 +11,8 @@ use lib.Dec.{ltb, leb}
 use lib.Pow.{pow-pos, pow-mono, pow-add, shr-shr, high, low}
 use lib.Ieee.{size}
 use lib.Ieee.Digits.{size-lt, size-reaches, size-le}
-use borrow.Author.Tests.{lt-ltb, le-ltb, ltb-true, ltb-false, leb-true, leb-false}
-use Rattle.packing.specs.Hybrid.{extraBitsRead, readHybrid, topBit, symbolOf, extraBitsOf, extraValueOf, validConfig}
+use borrow.Author.Tests.{lt-ltb, le-ltb, le-leb, ltb-true, ltb-false, leb-true, leb-false}
+use Rattle.packing.specs.Hybrid.{extraBitsRead, readHybrid, topBit, symbolOf, extraBitsOf, extraValueOf, validConfig, isSplit}
 
 -- ---- the top one bit
 
@@ -128,11 +128,11 @@ module _ (s m l v : ℕ) (big : 2 ^ s ≤ v) where
   unfolding extraValueOf
   extra-value-past = rw (le-ltb v (2 ^ s) big)
 
-  read-bits-past : extraBitsRead s m l v ≡ s - m - l + (v - 2 ^ s) / 2 ^ (m + l)
+  pub read-bits-past : extraBitsRead s m l v ≡ s - m - l + (v - 2 ^ s) / 2 ^ (m + l)
   unfolding extraBitsRead
   read-bits-past = rw (le-ltb v (2 ^ s) big)
 
-  read-past : (b : ℕ) → readHybrid s m l v b ≡ ((v / 2 ^ l % 2 ^ m + 2 ^ m) * 2 ^ extraBitsRead s m l v + b) * 2 ^ l + v % 2 ^ l
+  pub read-past : (b : ℕ) → readHybrid s m l v b ≡ ((v / 2 ^ l % 2 ^ m + 2 ^ m) * 2 ^ extraBitsRead s m l v + b) * 2 ^ l + v % 2 ^ l
   unfolding readHybrid
   read-past b = rw (le-ltb v (2 ^ s) big)
 
@@ -289,6 +289,14 @@ module _ (s m l : ℕ) (h : m + l ≤ s) where
         (subst⁻¹ (λ (k : ℕ). k / 2 ^ l % 2 ^ e ≡ b) (f .value)
         (value-extra e b m l (f .x) (f .y) (f .b-small) (f .x-small) (f .y-small)))
 
+  -- what a decoder reads lies in the octave that the token names
+  pub read-octave : (t b j : ℕ) → 2 ^ s ≤ t → j ≡ (t - 2 ^ s) / 2 ^ (m + l) → b < 2 ^ extraBitsRead s m l t
+      → (2 ^ (s + j) ≤ readHybrid s m l t b) × (readHybrid s m l t b < 2 ^ suc (s + j))
+  read-octave t b j big e hb =
+      let f = of-token t b big hb in
+      let top : topBit (readHybrid s m l t b) ≡ s + j = omega (arith, top-is f, reads-extra f, read-bits-past s m l t big) in
+      rw (← top) (top-spec (readHybrid s m l t b) (lt-of-lt-of-le (pow-pos s) (value-big f)))
+
 -- ---- what others cite
 
 -- below 2 ^ s a value and a token are one, with no extra bits
@@ -353,19 +361,19 @@ module _ (s m l : ℕ) (h : m + l ≤ s) where
       (λ p. let z : b < 1 = rw (read-bits-small s m l t p) at hb in rw (read-small s m l t p b) (symbol-small s m l t p, extra-value-small s m l t p ∙ omega arith))
       (λ p. (symbol s m l h (of-token s m l h t b p hb), extra-value s m l h (of-token s m l h t b p hb)))
 
-  -- A value below 2 ^ 17 has a symbol below 2 ^ s + (17 - s) * 2 ^ (m + l).
-  pub symbol-below : (v : ℕ) → v ≤ 131071 → symbolOf s m l v < 2 ^ s + (17 - s) * 2 ^ (m + l)
-  symbol-below v hv =
+  -- A value below 2 ^ n has a symbol below 2 ^ s + (n - s) * 2 ^ (m + l).
+  pub symbol-below : (n v : ℕ) → v < 2 ^ n → symbolOf s m l v < 2 ^ s + (n - s) * 2 ^ (m + l)
+  symbol-below n v hv =
       either v (2 ^ s)
       (λ p. rw (symbol-small s m l v p) (le-trans p (le-add-right _ _)))
       (λ p.
-      let n = topBit v in
-      let most : n ≤ 16 = top-most v hv (lt-of-lt-of-le (pow-pos s) p) in
-      let from : s ≤ n = top-from s m l v p in
-      let digits : v / 2 ^ (n - m) % 2 ^ m * 2 ^ l + v % 2 ^ l < 2 ^ m * 2 ^ l =
+      let t = topBit v in
+      let most : t < n = lt-of-pow-lt t n (lt-of-le-of-lt (top-spec v (lt-of-lt-of-le (pow-pos s) p) .0) hv) in
+      let from : s ≤ t = top-from s m l v p in
+      let digits : v / 2 ^ (t - m) % 2 ^ m * 2 ^ l + v % 2 ^ l < 2 ^ m * 2 ^ l =
       digits-lt (mod-lt _ (pow-pos m)) (mod-lt _ (pow-pos l))
       in
-      let blocks : suc (n - s) * 2 ^ (m + l) ≤ (17 - s) * 2 ^ (m + l) = mul-le-mul-right (2 ^ (m + l)) (omega arith) in
+      let blocks : suc (t - s) * 2 ^ (m + l) ≤ (n - s) * 2 ^ (m + l) = mul-le-mul-right (2 ^ (m + l)) (omega arith) in
       rw (symbol-past s m l v p) (omega (arith, digits, blocks, pow-add 2 m l)))
 
 -- ---- a configuration that check 4 passes
@@ -374,7 +382,7 @@ pub record Valid (s m l : ℕ) : Type 0 where
   pub small : s ≤ 6
   pub within : m + l ≤ s
 
-both : (a b : Bool) → a && b ≡ true → (a ≡ true) × (b ≡ true)
+pub both : (a b : Bool) → a && b ≡ true → (a ≡ true) × (b ≡ true)
 both true b e = (refl, e)
 both false b e = absurd (false≢true e)
 
@@ -390,7 +398,21 @@ symbol-fits s m l v e hv =
     let p = valid s m l e in
     let small : 2 ^ s ≤ 2 ^ 6 = pow-mono (p .small) in
     let few : (17 - s) * 2 ^ (m + l) ≤ 17 * 64 = mul-le-mul {n₂ = 17} {m₂ = 64} (omega arith) (pow-mono {j = 6} (le-trans (p .within) (p .small))) in
-    lt-of-lt-of-le (symbol-below s m l (p .within) v hv) (omega arith)
+    lt-of-lt-of-le (symbol-below s m l (p .within) 17 v (omega arith)) (omega arith)
+
+-- A value below 128 has one of the 128 symbols.
+pub small-symbol : (s m l v : ℕ) → Valid s m l → v < 128 → symbolOf s m l v < 128
+small-symbol s m l v p hv = lt-of-lt-of-le (symbol-below s m l (p .within) 7 v hv) (octaves s (p .small) (2 ^ (m + l)) (pow-mono (p .within)))
+  where
+    octaves : (s : ℕ) → s ≤ 6 → (q : ℕ) → q ≤ 2 ^ s → 2 ^ s + (7 - s) * q ≤ 128
+    octaves zero h q e = omega arith
+    octaves (suc zero) h q e = omega arith
+    octaves (suc (suc zero)) h q e = omega arith
+    octaves (suc (suc (suc zero))) h q e = omega arith
+    octaves (suc (suc (suc (suc zero)))) h q e = omega arith
+    octaves (suc (suc (suc (suc (suc zero))))) h q e = omega arith
+    octaves (suc (suc (suc (suc (suc (suc zero)))))) h q e = omega arith
+    octaves (suc (suc (suc (suc (suc (suc (suc s))))))) h q e = absurd (omega arith)
 
 -- at most 16 extra bits
 pub extra-bits-few : (s m l v : ℕ) → v ≤ 131071 → extraBitsOf s m l v ≤ 16
@@ -400,3 +422,34 @@ extra-bits-few s m l v hv =
     (λ p.
     let most : topBit v ≤ 16 = top-most v hv (lt-of-lt-of-le (pow-pos s) p) in
     rw (extra-bits-past s m l v p) (omega arith))
+
+-- ---- which pairs are a value's
+
+-- t and b are the split of v, a value up to 131,071 that has one of the 128 symbols
+pub record SplitOf (s m l t b v : ℕ) : Type 0 where
+  pub most : v ≤ 131071
+  pub low : t < 128
+  pub symbol-is : symbolOf s m l v ≡ t
+  pub bits-are : extraValueOf s m l v ≡ b
+
+module _ (s m l : ℕ) (h : m + l ≤ s) (t b : ℕ) where
+  -- What passes the test is the split of what a decoder reads ..
+  pub split-of : isSplit s m l t b ≡ true → SplitOf s m l t b (readHybrid s m l t b)
+  unfolding isSplit
+  split-of e =
+      let p = both _ _ e in
+      let q = both _ _ (p .0) in
+      let back = split-read s m l h t b (ltb-true _ _ (q .1)) in
+      record { most = leb-true _ _ (p .1); low = ltb-true _ _ (q .0); symbol-is = back .0; bits-are = back .1 }
+
+  -- .. and the split of any value passes it and is read as that value.
+  pub reads-as : {v : ℕ} → SplitOf s m l t b v → readHybrid s m l t b ≡ v
+  reads-as {v} p = rw (← p .symbol-is, ← p .bits-are) (read-split s m l h v)
+
+  pub is-split : {v : ℕ} → SplitOf s m l t b v → isSplit s m l t b ≡ true
+  unfolding isSplit
+  is-split {v} p =
+      let fits : b < 2 ^ extraBitsRead s m l t =
+      rw (← p .symbol-is, ← p .bits-are, read-bits-split s m l h v) (extra-value-fits s m l h v)
+      in
+      simp (lt-ltb t 128 (p .low), lt-ltb b _ fits, reads-as p, le-leb v 131071 (p .most))

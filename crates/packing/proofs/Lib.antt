@@ -1,4 +1,5 @@
 mod Shifts
 mod Past
+mod Decoded
 pub mod Signed
 pub mod Hybrid

@@ -46,3 +46,13 @@ split s m l v =
 -- A configuration that check 4 passes: 84 of them. Its symbols may lie above 127, where a cluster has no prices.
 unfoldable pub validConfig : (s m l : ℕ) → Bool
 validConfig s m l = leb s 6 && leb (m + l) s
+
+-- ---- which pairs of a symbol and extra bits a value has (document 02, ticket 5)
+
+-- The symbol is one of the 128, the number fits its extra bits, and what a decoder reads is at most 131,071.
+unfoldable pub isSplit : (s m l t b : ℕ) → Bool
+isSplit s m l t b = ltb t 128 && ltb b (2 ^ extraBitsRead s m l t) && leb (readHybrid s m l t b) 131071
+
+-- The value of such a pair; 131,072 where it is none's.
+unfoldable pub decoded : (s m l t b : ℕ) → ℕ
+decoded s m l t b = cond (isSplit s m l t b) (readHybrid s m l t b) 131072

@@ -1,10 +1,10 @@
 // Packing of levels and splitting of values into a symbol and extra bits (document 01, module 1).
 ghost use mathlib.Core.Path.{_≡_};
 ghost use mathlib.Core.Bool.{true};
-ghost use Prim.Native.Nat.{_≤_, _<_, _*_, _/_, _%_, _^_};
+ghost use Prim.Native.Nat.{_≤_, _<_, _+_, _*_, _/_, _%_, _^_};
 ghost use lib.IntN.{natAbs};
-ghost use Rattle.packing.specs.Signed.{packSigned};
-ghost use Rattle.packing.specs.Hybrid.{split, topBit, validConfig};
+ghost use Rattle.packing.specs.Signed.{packSigned, unpackSigned};
+ghost use Rattle.packing.specs.Hybrid.{split, topBit, validConfig, readHybrid, isSplit, decoded};
 
 pub struct HybridUintConfig {
     pub split_exponent: u32,
@@ -100,4 +100,72 @@ pub fn uint_encode_with_config(value: u32, config: HybridUintConfig) -> Split
         extra_bits,
         bits,
     }
+}
+
+// The value that a symbol's high and low bits make with the extra bits between them.
+fn joined(symbol: u32, bits: u32, m: u32, l: u32, extra_bits: u32) -> u32
+    requires { ⌜ (m < 32) × ((l < 32) × («extra_bits» < 32)) ⌝ }
+    requires { ⌜ ((symbol / 2 ^ l % 2 ^ m + 2 ^ m) * 2 ^ «extra_bits» + bits) * 2 ^ l + symbol % 2 ^ l ≤ 131071 ⌝ }
+    ensures { λ r. ⌜ r ≡ ((symbol / 2 ^ l % 2 ^ m + 2 ^ m) * 2 ^ «extra_bits» + bits) * 2 ^ l + symbol % 2 ^ l ⌝ }
+{
+    let high = low_bits(symbol >> l, m) + power(m);
+    shifted_up(shifted_up(high, extra_bits) + bits, l) + low_bits(symbol, l)
+}
+
+// The value of a symbol with its extra bits, where they are the split of one.
+pub fn uint_read_with_config(symbol: u32, bits: u32, config: HybridUintConfig) -> u32
+    requires { ⌜ validConfig (config .«split_exponent») (config .«msb_in_token») (config .«lsb_in_token») ≡ true ⌝ }
+    requires { ⌜ isSplit (config .«split_exponent») (config .«msb_in_token») (config .«lsb_in_token») symbol bits ≡ true ⌝ }
+    ensures { λ r. ⌜ r ≡ readHybrid (config .«split_exponent») (config .«msb_in_token») (config .«lsb_in_token») symbol bits ⌝ }
+{
+    let s = config.split_exponent;
+    let m = config.msb_in_token;
+    let l = config.lsb_in_token;
+    let small = power(s);
+    if symbol < small {
+        return symbol;
+    }
+    let above = (symbol - small) >> (m + l);
+    joined(symbol, bits, m, l, s - m - l + above)
+}
+
+pub const NO_VALUE: u32 = 131072;
+
+// The value of a symbol with its extra bits, or NO_VALUE where they split no value up to 131,071. The value's top bit is tested before anything is
+// shifted: under 0,0,0 symbol 127 stands for 2^126.
+pub fn uint_decode_with_config(symbol: u32, bits: u32, config: HybridUintConfig) -> u32
+    requires { ⌜ validConfig (config .«split_exponent») (config .«msb_in_token») (config .«lsb_in_token») ≡ true ⌝ }
+    ensures { λ r. ⌜ r ≡ decoded (config .«split_exponent») (config .«msb_in_token») (config .«lsb_in_token») symbol bits ⌝ }
+{
+    let s = config.split_exponent;
+    let m = config.msb_in_token;
+    let l = config.lsb_in_token;
+    if symbol > 127 {
+        return NO_VALUE;
+    }
+    let small = power(s);
+    if symbol < small {
+        if bits == 0 {
+            return symbol;
+        }
+        return NO_VALUE;
+    }
+    let above = (symbol - small) >> (m + l);
+    if s + above > 16 {
+        return NO_VALUE;
+    }
+    let extra_bits = s - m - l + above;
+    if bits >= power(extra_bits) {
+        return NO_VALUE;
+    }
+    joined(symbol, bits, m, l, extra_bits)
+}
+
+// The level of a packed value of at most 65,536.
+pub fn unpack_signed(value: u32) -> i32
+    requires { ⌜ value ≤ 65536 ⌝ }
+    ensures { λ r. ⌜ r ≡ unpackSigned value ⌝ }
+{
+    let half = (value / 2) as i32;
+    if value % 2 == 0 { half } else { -1 - half }
 }

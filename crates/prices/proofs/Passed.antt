@@ -11,7 +11,7 @@ use lib.Ieee.Bits.{ofBits-toBits}
 use lib.Ieee.Fits.{add-fits}
 use borrow.Author.Tests.{eqb-true, eqb-false, leb-true, ltb-true}
 use Rattle.prices.specs.Book.{Book, at, clusterValid, clusterPrice, price}
-use Rattle.prices.specs.Checks.{symbolPrice, sameBits, check1, check2, check3, check4, check5, check6, mapBelow, allPriced, rowKept, firstTwo, firstFive, fillRefusal, bookRefusal}
+use Rattle.prices.specs.Checks.{symbolPrice, sameBits, check1, check2, check3, check4, check5, check6, mapBelow, allPriced, rowKept, firstTwo, firstFive, fillRefusal, bookRefusal, Priced}
 use Rattle.prices.proofs.Each.{both, each-below}
 
 -- checks 1 to 5
@@ -152,6 +152,18 @@ passed b e =
           λ k v h i.
           each-below (λ w. sameBits (at (b .ready) (256 * k + w)) (clusterPrice (b .configs) (b .symbols) k w)) 256
           (each-below (rowKept (b .configs) (b .symbols) (b .ready)) (b .clusters) rows k h) v i;
+    }
+
+-- a cluster of a book that passes them
+pub priced-in : {b : Book} {k : ℕ} → Passed b → k < b .clusters → Priced (b .configs) (b .symbols) (b .ready) k
+priced-in {b} {k} p h =
+    record {
+      few = omega (arith, h, p .sound .few);
+      configs-long = omega (arith, h, p .sound .configs-long);
+      symbols-long = omega (arith, h, p .sound .symbols-long);
+      ready-long = omega (arith, h, p .sound .ready-long);
+      valid = p .sound .valid k h;
+      kept = λ v. p .kept k v h;
     }
 
 -- two values of the format with the same bits are one

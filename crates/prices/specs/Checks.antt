@@ -1,5 +1,6 @@
 -- Checks 1 to 6 of document 01, in the order in which they are made.
-use Prim.Native.Nat.{ℕ, zero, suc, _+_, _*_}
+use Prim.Native.Nat.{ℕ, zero, suc, _+_, _*_, _<_}
+use mathlib.Core.Path.{_≡_}
 use mathlib.Core.List.{List}
 use mathlib.Core.Bool.{Bool, true, false, cond, _&&_, _||_}
 use lib.Dec.{leb, ltb, eqb}
@@ -52,6 +53,15 @@ check5 b = allPriced (b .symbols)
 -- the 256 ready prices of cluster k have the bits of the prices
 unfoldable pub rowKept : List ℕ → List Float → List Float → ℕ → Bool
 rowKept configs symbols ready k = each 256 (λ v. sameBits (at ready (256 * k + v)) (clusterPrice configs symbols k v))
+
+-- what the checks say of one cluster: its bytes and prices are there, its configuration is valid, its ready prices are its prices
+pub record Priced (configs : List ℕ) (symbols ready : List Float) (k : ℕ) : Type 0 where
+  pub few : k < 256
+  pub configs-long : 3 * k + 2 < length configs
+  pub symbols-long : 128 * k + 127 < length symbols
+  pub ready-long : 256 * k + 255 < length ready
+  pub valid : clusterValid configs k ≡ true
+  pub kept : (v : ℕ) → v < 256 → sameBits (at ready (256 * k + v)) (clusterPrice configs symbols k v) ≡ true
 
 -- 6: each ready price has the bits of the price
 unfoldable pub check6 : Book → Bool

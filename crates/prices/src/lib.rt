@@ -7,7 +7,7 @@ ghost use mathlib.Core.Bool.{true};
 ghost use Prim.Native.Nat.{_≤_, _<_, _+_, _*_};
 ghost use lib.ListN.{length, getD};
 ghost use Rattle.prices.specs.Book.{bookOf, price, symbolAt, clusterPrice, clusterValid, clusterSymbol, clusterExtra};
-ghost use Rattle.prices.specs.Checks.{bookRefusal};
+ghost use Rattle.prices.specs.Checks.{bookRefusal, Priced};
 
 // The prices of a value in two contexts.
 pub struct Pair {
@@ -64,7 +64,25 @@ pub fn cluster_price(configs: &[u8], symbols: &[f32], cluster: usize, value: u32
     symbol_at(symbols, cluster, split.symbol) + split.extra_bits as f32
 }
 
-// The price of a value in a context. Values below 256 are kept ready.
+// The price of a value in a cluster of a book that passed its checks. Values below 256 are kept ready.
+pub fn cluster_bits(
+    configs: &[u8],
+    symbols: &[f32],
+    ready: &[f32],
+    cluster: usize,
+    value: u32,
+) -> f32
+    requires { ⌜ Priced (now configs) (now symbols) (now ready) cluster ⌝ }
+    requires { ⌜ value ≤ 131071 ⌝ }
+    ensures { λ r. ⌜ r ≡ clusterPrice (now (configs .entry)) (now (symbols .entry)) cluster value ⌝ }
+{
+    if value < 256 {
+        return ready[256 * cluster + value as usize];
+    }
+    cluster_price(configs, symbols, cluster, value)
+}
+
+// The price of a value in a context.
 pub fn token_bits(
     clusters: u32,
     map: &[u8],
@@ -80,10 +98,7 @@ pub fn token_bits(
     ensures { λ r. ⌜ r ≡ price (bookOf clusters (now (map .entry)) (now (configs .entry)) (now (symbols .entry)) (now (ready .entry))) context value ⌝ }
 {
     let cluster = map[context] as usize;
-    if value < 256 {
-        return ready[256 * cluster + value as usize];
-    }
-    cluster_price(configs, symbols, cluster, value)
+    cluster_bits(configs, symbols, ready, cluster, value)
 }
 
 // The prices of a value in a context and the next one: the two `prev` contexts of a coefficient.

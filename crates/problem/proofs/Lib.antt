@@ -5,5 +5,6 @@ pub mod Problem
 pub mod Tokens
 pub mod Input
 pub mod Refusals
+pub mod Wider
 pub mod Written
 pub mod Main

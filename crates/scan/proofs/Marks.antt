@@ -12,7 +12,7 @@ use lib.Dec.{ltb, eqb, lit≤}
 use lib.ListN.{length, getD, set, take, replicate, length-set, length-replicate, getD-replicate}
 use lib.Seq.{take-length, getD-set-same, getD-set-other}
 use Rattle.laws.proofs.Tests.{and-left, and-right}
-use Rattle.scan.specs.Marks.{markOf, markedBelow, Marked}
+use Rattle.scan.specs.Marks.{markOf, markedBelow, byteAt, Marked, Marks}
 use Rattle.scan.specs.Scan.{countOf, eachOnce}
 use Rattle.scan.proofs.Counts.{count-next-here, count-next-other, count-empty, either, split}
 use Rattle.scan.proofs.Once.{once, bound, each-once}
@@ -38,99 +38,97 @@ unfolding markOf
 mark-met zero h = h
 mark-met (suc n) h = omega arith
 
--- Of the first k entries `bad` are not below the length; where there are none such, the marks are of the numbers met.
-pub record Marks (s : List ℕ) (bad : ℕ) (marks : List ℕ) (k : ℕ) : Type 0 where
-  pub room : length s ≤ length marks
-  pub few : bad ≤ k
-  pub below : bad ≡ 0 → (j : ℕ) → j < k → getD s j 0 < length s
-  pub met : bad ≡ 0 → (i : ℕ) → i < length s → getD marks i 0 ≡ markOf (countOf i (take k s))
-  pub past : 0 < bad → eachOnce s ≡ false
-
-pub marks-none : (s marks : List ℕ) → length s ≤ length marks → ((i : ℕ) → i < length s → getD marks i 0 ≡ 0) → Marks s 0 marks 0
-marks-none s marks room clear =
+pub marks-none : (s : List ℕ) (m : ℕ → ℕ) → ((i : ℕ) → i < length s → m i ≡ 0) → Marks s 0 m 0
+marks-none s m clear =
     record {
-      room = room;
       few = lit≤ tt;
       below = λ e j h. absurd (not-suc-le-zero h);
       met = λ e i h. rw (count-empty i, mark-none) (clear i h);
       past = λ h. absurd (lt-irrefl 0 h);
     }
 
--- the entry x at k is marked, at x itself where it is below the length; `out` tells whether it is not
-module _ {s marks : List ℕ} {bad k x out : ℕ} (so-far : Marks s bad marks k) (h : k < length s) (here : x ≡ getD s k 0) (one : out ≤ 1) (low : x < length s → out ≡ 0) (high : length s ≤ x → out ≡ 1) where
+-- the entry x at k is marked, where it is below the length, and nothing else; `out` tells whether it is not
+module _ {s : List ℕ} {m : ℕ → ℕ} {bad k x out : ℕ} (so-far : Marks s bad m k) (h : k < length s) (here : x ≡ getD s k 0) (one : out ≤ 1) (low : x < length s → out ≡ 0) (high : length s ≤ x → out ≡ 1)
+    (m' : ℕ → ℕ) (marked : x < length s → m' x ≡ 1) (others : x < length s → (i : ℕ) → i < length s → (i ≡ x → ⊥) → m' i ≡ m i) where
   inside : bad + out ≡ 0 → x < length s
   inside e = split x (length s) (λ l. l) (λ g. absurd (lt-irrefl 0 (omega (arith, high g))))
 
-  more-met : x < length s → ((i : ℕ) → i < length s → getD marks i 0 ≡ markOf (countOf i (take k s)))
-      → (i : ℕ) → i < length s → getD (set marks (x % length marks) 1) i 0 ≡ markOf (countOf i (take (suc k) s))
-  more-met l met i m =
-      let room = so-far .room in
-      let itself : x % length marks ≡ x = mod-eq-of-lt (omega arith) in
-      rw itself
-      (either i x
-      (λ e. rw (e, count-next-here x k s h (sym here), mark-some) (getD-set-same marks x 1 0 (omega arith)))
-      (λ d. getD-set-other marks x i 1 0 d ∙ met i m ∙ ap markOf (sym (count-next-other i k s h (λ e. d (sym (here ∙ e)))))))
+  more-met : x < length s → ((i : ℕ) → i < length s → m i ≡ markOf (countOf i (take k s))) → (i : ℕ) → i < length s → m' i ≡ markOf (countOf i (take (suc k) s))
+  more-met l met i n =
+      either i x
+      (λ e. rw (e, count-next-here x k s h (sym here), mark-some) (marked l))
+      (λ d. others l i n d ∙ met i n ∙ ap markOf (sym (count-next-other i k s h (λ e. d (sym (here ∙ e))))))
 
-  pub marks-more : Marks s (bad + out) (set marks (x % length marks) 1) (k + 1)
+  pub marks-more : Marks s (bad + out) m' (k + 1)
   marks-more =
       record {
-        room = rw length-set (so-far .room);
         few = omega (arith, so-far .few);
         below = λ e. below-more _ _ (so-far .below (omega arith)) (rw here at (inside e));
         met = λ e. rw add-one (more-met (inside e) (so-far .met (omega arith)));
         past = λ p. split x (length s) (λ l. so-far .past (omega (arith, low l))) (λ g. past-end s k h here g);
       }
 
+-- with a byte a mark
+module _ {s : List ℕ} (marks : List ℕ) {bad k x out : ℕ} (room : length s ≤ length marks) (so-far : Marks s bad (byteAt marks) k) (h : k < length s) (here : x ≡ getD s k 0) (one : out ≤ 1) (low : x < length s → out ≡ 0) (high : length s ≤ x → out ≡ 1) where
+  itself : x < length s → x % length marks ≡ x
+  itself l = mod-eq-of-lt (omega arith)
+
+  pub bytes-more : Marks s (bad + out) (byteAt (set marks (x % length marks) 1)) (k + 1)
+  bytes-more =
+      marks-more so-far h here one low high (byteAt (set marks (x % length marks) 1))
+      (λ l. rw (itself l) (getD-set-same marks x 1 0 (omega arith)))
+      (λ l i n d. rw (itself l) (getD-set-other marks x i 1 0 d))
+
 -- all entries are marked
-pub marks-done : (s marks : List ℕ) (bad : ℕ) → Marks s bad marks (length s) → Marked s (eqb bad 0) marks
-marks-done s marks zero done =
+pub marks-done : (s : List ℕ) (m : ℕ → ℕ) (bad : ℕ) → Marks s bad m (length s) → Marked s (eqb bad 0) m
+marks-done s m zero done =
     record { below = λ _. done .below refl; met = λ _ i h. rw (take-length s) at (done .met refl i h); past = λ e. absurd (true≢false e) }
-marks-done s marks (suc n) done =
+marks-done s m (suc n) done =
     let some : eqb (suc n) 0 ≡ false = ne-eqb (suc n) 0 (λ e. omega arith) in
     record { below = λ e. absurd (true≢false (sym e ∙ some)); met = λ e. absurd (true≢false (sym e ∙ some)); past = λ _. done .past (omega arith) }
 
-pub least-none : (marks : List ℕ) → _≡_ {A = ℕ} 1 (cond (markedBelow 0 marks) 1 0)
+pub least-none : (m : ℕ → ℕ) → _≡_ {A = ℕ} 1 (cond (markedBelow 0 m) 1 0)
 unfolding markedBelow
-least-none marks = refl
+least-none m = refl
 
 -- the least of 1 and the first marks: 1 where all are marked, else 0
 pub least-more :
-    (marks : List ℕ) (k : ℕ) {least next : ℕ} → least ≡ cond (markedBelow k marks) 1 0 → (getD marks k 0 < least → next ≡ getD marks k 0) → (least ≤ getD marks k 0 → next ≡ least)
-    → next ≡ cond (markedBelow (k + 1) marks) 1 0
+    (m : ℕ → ℕ) (k : ℕ) {least next : ℕ} → least ≡ cond (markedBelow k m) 1 0 → (m k < least → next ≡ m k) → (least ≤ m k → next ≡ least)
+    → next ≡ cond (markedBelow (k + 1) m) 1 0
 unfolding markedBelow
-least-more marks k {least} {next} e low high = rw add-one (go (markedBelow k marks) e)
+least-more m k {least} {next} e low high = rw add-one (go (markedBelow k m) e)
   where
-    go : (b : Bool) → least ≡ cond b 1 0 → next ≡ cond (b && ltb 0 (getD marks k 0)) 1 0
-    go true f = split 0 (getD marks k 0) (λ p. rw (lt-ltb 0 _ p) (omega (arith, high (omega arith)))) (λ g. rw (le-ltb 0 _ g) (omega (arith, low (omega arith))))
+    go : (b : Bool) → least ≡ cond b 1 0 → next ≡ cond (b && ltb 0 (m k)) 1 0
+    go true f = split 0 (m k) (λ p. rw (lt-ltb 0 _ p) (omega (arith, high (omega arith)))) (λ g. rw (le-ltb 0 _ g) (omega (arith, low (omega arith))))
     go false f = omega (arith, high (omega arith))
 
 pub least-done : (b : Bool) {least : ℕ} → least ≡ cond b 1 0 → eqb least 1 ≡ b
 least-done true e = rw e
 least-done false e = rw e
 
-marked-at : (n : ℕ) (marks : List ℕ) → markedBelow n marks ≡ true → (i : ℕ) → i < n → 0 < getD marks i 0
+pub marked-at : (n : ℕ) (m : ℕ → ℕ) → markedBelow n m ≡ true → (i : ℕ) → i < n → 0 < m i
 unfolding markedBelow
-marked-at zero marks e i h = absurd (not-suc-le-zero h)
-marked-at (suc n) marks e i h =
-    either i n (λ p. rw p (ltb-true 0 (getD marks n 0) (and-right (markedBelow n marks) (ltb 0 (getD marks n 0)) e)))
-    (λ d. marked-at n marks (and-left (markedBelow n marks) (ltb 0 (getD marks n 0)) e) i (omega arith))
+marked-at zero m e i h = absurd (not-suc-le-zero h)
+marked-at (suc n) m e i h =
+    either i n (λ p. rw p (ltb-true 0 (m n) (and-right (markedBelow n m) (ltb 0 (m n)) e)))
+    (λ d. marked-at n m (and-left (markedBelow n m) (ltb 0 (m n)) e) i (omega arith))
 
-marked-all : (n : ℕ) (marks : List ℕ) → ((i : ℕ) → i < n → 0 < getD marks i 0) → markedBelow n marks ≡ true
+pub marked-all : (n : ℕ) (m : ℕ → ℕ) → ((i : ℕ) → i < n → 0 < m i) → markedBelow n m ≡ true
 unfolding markedBelow
-marked-all zero marks all = refl
-marked-all (suc n) marks all = rw (marked-all n marks (λ i h. all i (omega arith)), lt-ltb 0 (getD marks n 0) (all n (omega arith)))
+marked-all zero m all = refl
+marked-all (suc n) m all = rw (marked-all n m (λ i h. all i (omega arith)), lt-ltb 0 (m n) (all n (omega arith)))
 
-same-truth : (a b : Bool) → (a ≡ true → b ≡ true) → (b ≡ true → a ≡ true) → a ≡ b
+pub same-truth : (a b : Bool) → (a ≡ true → b ≡ true) → (b ≡ true → a ≡ true) → a ≡ b
 same-truth true b f g = sym (f refl)
 same-truth false true f g = g refl
 same-truth false false f g = refl
 
 -- n entries below n, and none of the n numbers missing: each stands there once
-pub marked-once : {s marks : List ℕ} {low : Bool} → low ≡ true → Marked s low marks → markedBelow (length s) marks ≡ eachOnce s
-marked-once {s} {marks} t marked =
+pub marked-once : {s : List ℕ} {m : ℕ → ℕ} {low : Bool} → low ≡ true → Marked s low m → markedBelow (length s) m ≡ eachOnce s
+marked-once {s} {m} t marked =
     same-truth _ _
-    (λ e. each-once s (λ i h. mark-met _ (rw (marked .met t i h) at (marked-at (length s) marks e i h))) (marked .below t))
-    (λ e. marked-all (length s) marks (λ i h. rw (marked .met t i h, once s e i h, mark-some) (lit≤ tt)))
+    (λ e. each-once s (λ i h. mark-met _ (rw (marked .met t i h) at (marked-at (length s) m e i h))) (marked .below t))
+    (λ e. marked-all (length s) m (λ i h. rw (marked .met t i h, once s e i h, mark-some) (lit≤ tt)))
 
 abbrev pub clear : ℕ → List ℕ
 clear n = replicate n 0

@@ -1,11 +1,45 @@
 -- What the checks of a search let pass. Assumes nothing.
-use mathlib.Core.Path.{_≡_, refl, sym, ap, _∙_}
+use mathlib.Core.Path.{_≡_, refl, sym, ap, _∙_, subst⁻¹}
 use mathlib.Core.Bool.{Bool, true, false, cond, _&&_}
-use Prim.Native.Nat.{ℕ, _*_, _≤_}
+use Prim.Native.Nat.{ℕ, _*_, _≤_, _<_}
 use lib.Dec.{leb, leb→le, leb·zero}
-use Rattle.block.specs.Checks.{enoughRoom}
-use Rattle.weights.specs.declared.Window.{Window}
+use Rattle.block.specs.Block.{Block, covered}
+use Rattle.block.specs.Checks.{enoughRoom, searchRefusal}
+use Rattle.block_checks.proofs.Laws.{passed, width-few}
+use Rattle.block_checks.specs.Passed.{Passed}
 use Rattle.laws.proofs.Tests.{and-left, and-right}
+use Rattle.prices.specs.Book.{Book}
+use Rattle.problem.proofs.Refusals.{searched, searched-width}
+use Rattle.steps.specs.Plan.{Planned, Coded}
+use Rattle.steps.specs.declared.reading.Plan.{Plan}
+use Rattle.weights.specs.Window.{windowFor}
+use Rattle.weights.specs.declared.Window.{Window}
+use Rattle.search_checks.specs.Checked.{Accepted, Checked}
+
+-- ---- a block that passed
+module _ (w cap : ℕ) (book : Book) (b : Block) (room : Bool) (none : searchRefusal w (windowFor cap (covered b)) book b room ≡ 0) where
+  pub accepted : 0 < cap → Accepted (windowFor cap (covered b)) book b
+  accepted some =
+      let s = searched w _ book b room none in
+      record { book-passed = s .0; passed = passed w cap b some (s .1 .0) }
+
+  pub accepted-room : room ≡ true
+  accepted-room = searched w _ book b room none .1 .1
+
+  pub accepted-width : w ≤ 12
+  accepted-width = width-few w (searched-width w _ book b room none)
+
+-- .. and its plan
+pub window-of : (cap : ℕ) (b : Block) {v : Window} → v ≡ windowFor cap (b .shape .cx * b .shape .cy) → v ≡ windowFor cap (covered b)
+unfolding covered
+window-of cap b e = e
+
+pub checked-of : (cap : ℕ) (b : Block) {book : Book} {p : Plan} → p .window ≡ windowFor cap (b .shape .cx * b .shape .cy) → Accepted (windowFor cap (covered b)) book b → Planned b p → Coded p
+    → Checked book b p
+checked-of cap b e a planned coded =
+    record { book-passed = a .book-passed; passed = subst⁻¹ (λ (v : Window). Passed v b) (window-of cap b e) (a .passed); planned = planned; coded = coded }
+
+-- ---- room
 
 -- check 14
 pub room-of : (bytes floats window choices rowA rowB : ℕ) → enoughRoom bytes floats window choices rowA rowB ≡ true → (floats ≤ rowA) × ((floats ≤ rowB) × (bytes * window ≤ choices))

@@ -18,7 +18,12 @@ use Rattle.weights.specs.declared.Window.{Window}
 abbrev pub positions : ℕ → Window → Book → Block → ℕ → List Position
 positions w v book b i = positionsFrom w v book b i (v .length - i)
 
--- a book and a block that passed their checks, and the block's plan
+-- a book and a block that passed their checks, room apart
+pub record Accepted (v : Window) (book : Book) (b : Block) : Type 0 where
+  pub book-passed : bookRefusal book ≡ 0
+  pub passed : Passed v b
+
+-- .. and the block's plan
 pub record Checked (book : Book) (b : Block) (p : Plan) : Type 0 where
   pub book-passed : bookRefusal book ≡ 0
   pub passed : Passed (p .window) b

@@ -1,1 +1,1 @@
-mod Results
+pub mod Results

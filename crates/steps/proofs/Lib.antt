@@ -7,3 +7,4 @@ pub mod Ordered
 pub mod Tails
 pub mod Local
 pub mod Plans
+pub mod Stretches

@@ -18,6 +18,7 @@ planned-lists b w scan source inverse levels =
       count-is = w .count-is;
       scale-is = w .scale-is;
       distance-is = w .distance-is;
+      far-is = w .far-is;
       bias-is = w .bias-is;
       lambda-is = w .lambda-is;
       restore-is = w .restore-is;

@@ -13,7 +13,7 @@ use Rattle.candidates.specs.Candidates.{inArray, isCurrent}
 use Rattle.candidates.specs.declared.Candidates.{Candidates}
 use Rattle.candidates.specs.Nearest.{isIdeal}
 use Rattle.scan.specs.Scan.{levelAt}
-use Rattle.weights.specs.Settings.{channelScale, restoreRate}
+use Rattle.weights.specs.Settings.{channelScale, scaledWeight, restoreRate}
 use Rattle.weights.specs.Window.{baseLen}
 use Rattle.weights.specs.declared.Window.{Window}
 use Rattle.steps.specs.declared.reading.Offer.{Offer}
@@ -28,6 +28,7 @@ pub record Planned (b : Block) (p : Plan) : Type 0 where
   pub count-is : p .«count_context» ≡ fineNonZeroContext (b .shape .predicted) (contextOf b)
   pub scale-is : p .«channel_scale» ≡ channelScale (b .settings) (b .shape .channel)
   pub distance-is : p .distance ≡ b .settings .distance
+  pub far-is : p .«far_weight» ≡ scaledWeight (p .«channel_scale») (p .base) (p .base) (p .distance)
   pub bias-is : p .bias ≡ b .bias
   pub lambda-is : p .lambda ≡ b .settings .lambda
   pub restore-is : p .«restore_rate» ≡ restoreRate (b .settings)

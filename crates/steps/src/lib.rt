@@ -1,5 +1,6 @@
 // The steps that the searches share.
 pub mod reading;
+mod tail;
 pub mod tokens;
 
 use bias::DequantBias;

@@ -15,11 +15,12 @@ ghost use Rattle.ac_context.specs.Contexts.{isPowerBelow};
 ghost use Rattle.block.specs.Block.{Block, blockOf, inputAt, ideal as idealOf, covered as coveredBy};
 ghost use Rattle.candidates.specs.Candidates.{inArray, isCurrent};
 ghost use Rattle.scan.specs.Scan.{levelAt};
+ghost use Rattle.weights.specs.Settings.{scaledWeight};
 ghost use Rattle.weights.specs.Window.{windowFor};
 ghost use Rattle.steps.specs.Place.{distortionAt, placeOf};
 ghost use Rattle.steps.specs.Plan.{Planned, Coded, Lists, Readable, Offered, listed, Usable, Each};
 
-// What a block's shape, settings, bias and scale give.
+// What a block's shape, settings, bias and scale give; `far_weight` is the weight of each position past the base length.
 pub struct Plan {
     pub covered: usize,
     pub log2: u32,
@@ -29,6 +30,7 @@ pub struct Plan {
     pub count_context: usize,
     pub channel_scale: f32,
     pub distance: f32,
+    pub far_weight: f32,
     pub bias: DequantBias,
     pub lambda: f32,
     pub restore_rate: f32,
@@ -56,15 +58,19 @@ pub fn plan_of(shape: Shape, settings: Settings, bias: DequantBias, scale: f32, 
         shape.strategy as usize,
         shape.qf_hi,
     );
+    let base = weights::base_len(covered);
+    let channel_scale = settings.channel_scale(shape.channel);
+    let far_weight = weights::position_weight(channel_scale, base, base, settings.distance);
     Plan {
         covered,
         log2: ac_context::log2_covered(covered),
         window: weights::window_under(cap, covered),
-        base: weights::base_len(covered),
+        base,
         offset: ac_context::fine_zero_density_contexts_offset(block) as usize,
         count_context: ac_context::fine_non_zero_context(shape.predicted as u32, block) as usize,
-        channel_scale: settings.channel_scale(shape.channel),
+        channel_scale,
         distance: settings.distance,
+        far_weight,
         bias,
         lambda: settings.lambda,
         restore_rate: settings.restore_rate(),
@@ -110,12 +116,23 @@ impl Plan {
             covered: self.covered,
             log2: self.log2,
             offset: self.offset,
-            weight: weights::position_weight(self.channel_scale, i, self.base, self.distance),
+            weight: self.weight(i),
             ideal,
             bias,
             lambda: self.lambda,
             nonzero_rate: self.nonzero_rate(level),
         }
+    }
+
+    // The weight of window position i, without a division past the base length.
+    fn weight(self, i: usize) -> f32
+        requires { ⌜ self .base ≤ 1024 ⌝ }
+        ensures { λ r. ⌜ (self .«far_weight» ≡ scaledWeight (self .«channel_scale») (self .base) (self .base) (self .distance) → r ≡ scaledWeight (self .«channel_scale») i (self .base) (self .distance)) ⌝ }
+    {
+        if i < self.base {
+            return weights::position_weight(self.channel_scale, i, self.base, self.distance);
+        }
+        self.far_weight
     }
 
     fn nonzero_rate(self, level: i32) -> f32

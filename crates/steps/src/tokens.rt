@@ -1,5 +1,7 @@
 // Tokens that no choice changes: the count's, and those past the window.
 use crate::reading::Plan;
+use crate::tail;
+use crate::tail::Tail;
 use prices::Pair;
 ghost use mathlib.Core.Path.{_≡_};
 ghost use mathlib.Core.Bool.{false, cond};
@@ -161,61 +163,6 @@ pub fn count_cost(
         )
 }
 
-// Adds to both sums what the levels from scan position `from` on cost, token by token until none of the `count` nonzero ones is left.
-fn add_tokens(
-    clusters: u32,
-    map: &[u8],
-    configs: &[u8],
-    symbols: &[f32],
-    ready: &[f32],
-    plan: Plan,
-    scan: &[u32],
-    levels: &[i32],
-    from: usize,
-    count: usize,
-    before: usize,
-    sums: Pair,
-) -> Pair
-    requires { ⌜ bookRefusal (bookOf clusters (now map) (now configs) (now symbols) (now ready)) ≡ 0 ⌝ }
-    requires { ⌜ Coded plan ⌝ }
-    requires { ⌜ Whole (plan .covered) from (now scan) (now levels) ⌝ }
-    requires { ⌜ (plan .covered ≤ from) × (from ≤ length (now scan)) ⌝ }
-    requires { ⌜ (count ≡ nonzerosAmong (now scan) (now levels) from (length (now scan) - from)) × (before ≤ 1) ⌝ }
-    ensures { λ r. ⌜ ((b : Block) → now (scan .entry) ≡ b .scan → now (levels .entry) ≡ b .levels → Planned b plan
-        → (r .first ≡ tokensFrom (bookOf clusters (now (map .entry)) (now (configs .entry)) (now (symbols .entry)) (now (ready .entry))) b (length (now (scan .entry)) - from) count from before (sums .first))
-        × (r .second ≡ tokensFrom (bookOf clusters (now (map .entry)) (now (configs .entry)) (now (symbols .entry)) (now (ready .entry))) b (length (now (scan .entry)) - from) count from before (sums .second))) ⌝ }
-{
-    let mut remaining = count;
-    let mut prev = before;
-    let mut k = from;
-    let mut first = sums.first;
-    let mut second = sums.second;
-    while k < scan.len() {
-        if remaining == 0 {
-            return Pair { first, second };
-        }
-        let level = crate::level_at(scan, levels, k);
-        let cost = token_cost(
-            clusters,
-            map,
-            configs,
-            symbols,
-            ready,
-            plan,
-            remaining,
-            k,
-            prev,
-            level,
-        );
-        first += cost;
-        second += cost;
-        prev = crate::nonzero(level);
-        remaining -= prev;
-        k += 1;
-    }
-    Pair { first, second }
-}
-
 // What the levels from scan position `from` on cost, `count` of them nonzero, with `prev` 0 and 1. `prev` decides the first token alone, so that all others are priced once.
 pub fn tail_costs(
     clusters: u32,
@@ -270,7 +217,9 @@ pub fn tail_costs(
         level,
     );
     let nonzero = crate::nonzero(level);
-    add_tokens(
+    let k = from + 1;
+    let remaining = count - nonzero;
+    tail::add_tokens(
         clusters,
         map,
         configs,
@@ -279,10 +228,10 @@ pub fn tail_costs(
         plan,
         scan,
         levels,
-        from + 1,
-        count - nonzero,
-        nonzero,
-        Pair {
+        Tail {
+            k,
+            remaining,
+            prev: nonzero,
             first: 0.0 + zero,
             second: 0.0 + one,
         },

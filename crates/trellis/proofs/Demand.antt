@@ -3,9 +3,10 @@ use mathlib.Core.Path.{_≡_, refl, sym, ap, _∙_, subst, subst⁻¹}
 use mathlib.Core.Logic.{_↔_}
 use mathlib.Core.Bool.{Bool, true, false, cond}
 use mathlib.Core.List.{List}
-use Prim.Native.Nat.{ℕ, _≤_, _<_}
+use Prim.Native.Nat.{ℕ, _*_, _≤_, _<_}
+use native.Mathlib.Nat.{le-trans, mul-le-mul-right}
 use native.Mathlib.Omega.{arith}
-use borrow.Author.Tests.{eqb-true, eqb-false, eq-eqb, ne-eqb}
+use borrow.Author.Tests.{eqb-true, eqb-false, eq-eqb, ne-eqb, le-leb}
 use lib.Dec.{T, eqb}
 use lib.IntN.{ℤ}
 use lib.ListN.{length}
@@ -13,7 +14,7 @@ use lib.Ieee.{Float, le, lt}
 use lib.Ieee.Scale.{finite}
 use Rattle.block.specs.Band.{positionsFrom, pastWindow, tailOf, problemOf}
 use Rattle.block.specs.Block.{Block, withLevels, covered, inputFrom, inputRemaining}
-use Rattle.block.specs.Checks.{blockRefusal}
+use Rattle.block.specs.Checks.{blockRefusal, searchRefusal, choiceBytes, states, enoughRoom, trellisRoom, wideRoom}
 use Rattle.block.specs.Choice.{windowLevels, IsChoice}
 use Rattle.block.specs.Outcome.{Lent, Result, cleared, refused, RefusedKeeps}
 use Rattle.block.specs.declared.Answer.{Answer}
@@ -26,14 +27,19 @@ use Rattle.prices.specs.Book.{Book}
 use Rattle.prices.specs.Checks.{bookRefusal}
 use Rattle.problem.proofs.Main as Main
 use Rattle.problem.proofs.Main.{input-in-band, found}
-use Rattle.problem.proofs.Refusals.{NoOutcome, search-number, searched}
+use Rattle.problem.proofs.Refusals.{NoOutcome, search-number, searched, still-searched}
+use Rattle.problem.proofs.Wider.{never-dearer, still-answers}
 use Rattle.problem.proofs.Written.{put-window, put-choice}
 use Rattle.problem.specs.Tokens.{needsInfinite}
 use Rattle.scan.specs.Scan.{put}
+use Rattle.search_checks.proofs.Refusing.{room-of}
 use Rattle.weights.specs.declared.Window.{Window}
-use Rattle.trellis.specs.Demand.{RefusedExactly, LeastCost, LeastAnswered, PromisedIn}
-use Rattle.trellis.specs.Outcome.{answered, written, refusal, bandedOutcome}
+use Rattle.trellis.specs.Demand.{RefusedExactly, LeastCost, LeastAnswered, IsCost, NeverDearer, AsWide, PromisedIn}
+use Rattle.trellis.specs.Outcome.{answered, written, refusal, wideRefusal, searchedOutcome, bandedOutcome, wideOutcome}
 use Rattle.trellis.proofs.Main.{refused-exactly, answers-least}
+
+is-true : (t : Bool) → T t → t ≡ true
+is-true true _ = refl
 
 -- the levels with those of a least choice written through the scan
 abbrev least-levels : ℕ → Window → Book → Block → List ℤ
@@ -95,19 +101,19 @@ module _ (w : ℕ) (v : Window) (book : Book) (b : Block) (ok : bookRefusal book
 
 -- ---- the same of the whole outcome
 -- a window that the checks let pass is one within the block
-module _ (w : ℕ) (v : Window) (book : Book) (b : Block) (within : blockRefusal v b 0 ≡ 0 → Passed v b) (l : Lent) where
+module _ (w : ℕ) (v : Window) (book : Book) (b : Block) (within : blockRefusal w v b 0 ≡ 0 → Passed v b) (l : Lent) where
   passed-all : refusal w v book b l ≡ 0 → (bookRefusal book ≡ 0) × Passed v b
   unfolding refusal
   passed-all e =
-      let s = searched v book b _ e in
+      let s = searched w v book b _ e in
       (s .0, within (s .1 .0))
 
   refusal-number : NoOutcome (refusal w v book b l)
   unfolding refusal
-  refusal-number = search-number v book b _
+  refusal-number = search-number w v book b _
 
   pub refused-15 : RefusedExactly w v book b l (bandedOutcome w v book b l .answer)
-  unfolding bandedOutcome
+  unfolding bandedOutcome searchedOutcome
   refused-15 = (λ e. only (eqb (refusal w v book b l) 0) refl e, λ h. rw (eq-eqb (refusal w v book b l) 0 (h .0)) (refused-exactly w v book (passed-all (h .0) .0) b (passed-all (h .0) .1) .1 (h .1)))
     where
       only : (t : Bool) → eqb (refusal w v book b l) 0 ≡ t
@@ -121,7 +127,7 @@ module _ (w : ℕ) (v : Window) (book : Book) (b : Block) (within : blockRefusal
           absurd (refusal-number .not-15 bad)
 
   pub least-answered : LeastAnswered w v book b (bandedOutcome w v book b l .lent .levels) (bandedOutcome w v book b l .answer)
-  unfolding bandedOutcome cleared
+  unfolding bandedOutcome searchedOutcome cleared
   least-answered x n e = go (eqb (refusal w v book b l) 0) refl e
     where
       go : (t : Bool) → eqb (refusal w v book b l) 0 ≡ t
@@ -135,7 +141,7 @@ module _ (w : ℕ) (v : Window) (book : Book) (b : Block) (within : blockRefusal
           absurd (omega arith)
 
   pub refused-keeps : l .levels ≡ b .levels → RefusedKeeps b (bandedOutcome w v book b l .lent .levels) (bandedOutcome w v book b l .answer)
-  unfolding bandedOutcome cleared written answered
+  unfolding bandedOutcome searchedOutcome cleared written answered
   refused-keeps own n e = go (eqb (refusal w v book b l) 0) (finite (leastTotal (problemOf w v book b))) e
     where
       go : (t f : Bool)
@@ -147,13 +153,69 @@ module _ (w : ℕ) (v : Window) (book : Book) (b : Block) (within : blockRefusal
       go true false k = refl
       go false f k = own
 
+  -- ---- the width of the band
+  -- an answered cost was let pass, and is the least
+  cost-least : (x : Float) (n : ℕ) → bandedOutcome w v book b l .answer ≡ Cost x n → (refusal w v book b l ≡ 0) × (x ≡ leastTotal (problemOf w v book b)) × T (finite (leastTotal (problemOf w v book b)))
+  unfolding bandedOutcome searchedOutcome answered
+  cost-least x n e = go (eqb (refusal w v book b l) 0) (finite (leastTotal (problemOf w v book b))) refl refl e
+    where
+      go : (t f : Bool) → eqb (refusal w v book b l) 0 ≡ t → finite (leastTotal (problemOf w v book b)) ≡ f
+          → cond t (record { answer = cond f (Cost (leastTotal (problemOf w v book b)) (leastCount (problemOf w v book b))) (Refused 15); lent = cleared (record { levels = written w v book b; choices = l .choices; rowA = l .rowA; rowB = l .rowB }) }) (refused (refusal w v book b l) l) .answer ≡ Cost x n
+          → (refusal w v book b l ≡ 0) × (x ≡ leastTotal (problemOf w v book b)) × T (finite (leastTotal (problemOf w v book b)))
+      go true true h g k =
+          let cost : x ≡ leastTotal (problemOf w v book b) = cc in
+          (eqb-true (refusal w v book b l) 0 h, cost, rw g tt)
+      go true false h g k =
+          let bad : _≡_ {A = ℕ} 0 1 = cc in
+          absurd (omega arith)
+      go false f h g k =
+          let bad : _≡_ {A = ℕ} 0 1 = cc in
+          absurd (omega arith)
+
+  -- a finite least that is let pass is answered
+  least-is-cost : refusal w v book b l ≡ 0 → T (finite (leastTotal (problemOf w v book b))) → IsCost (bandedOutcome w v book b l .answer)
+  unfolding bandedOutcome searchedOutcome answered
+  least-is-cost e f = record { cost = leastTotal (problemOf w v book b); count = leastCount (problemOf w v book b); is = rw (eq-eqb (refusal w v book b l) 0 e, is-true (finite (leastTotal (problemOf w v book b))) f) }
+
+-- The narrower band's block passed, so the wider's does where it has room; and a wider band holds every choice of the narrower.
+module _ (w : ℕ) (v : Window) (book : Book) (b : Block) (within : (n : ℕ) → blockRefusal n v b 0 ≡ 0 → Passed v b) (l : Lent) where
+  pub wider : NeverDearer w v book b l (bandedOutcome w v book b l .answer)
+  unfolding refusal
+  wider n k cost count narrow e =
+      let found = cost-least n v book b (within n) k cost count e in
+      let all = passed-all n v book b (within n) k (found .0) in (
+        λ c m f.
+            let own = cost-least w v book b (within w) l c m f in
+            subst⁻¹ (λ (x : Float). T (le x cost)) (own .1) (subst⁻¹ (λ (x : Float). T (le (leastTotal (problemOf w v book b)) x)) (found .1) (never-dearer v book b n w narrow (all .0) (all .1) (found .2))),
+        λ ok room.
+            least-is-cost w v book b (within w) l
+            (subst⁻¹ (λ (t : Bool). searchRefusal w v book b t ≡ 0) room (still-searched w n v book b _ ok (found .0)))
+            (still-answers v book b n w narrow (all .0) (all .1) (found .2)),
+      )
+
+-- ---- half bytes: where the wide room suffices, the packed one does
+both-rooms : (w window choices rowA rowB : ℕ) → wideRoom w window choices rowA rowB ≡ true → trellisRoom w window choices rowA rowB ≡ true
+unfolding enoughRoom
+both-rooms w window choices rowA rowB e =
+    let r = room-of (states w) (states w) window choices rowA rowB e in
+    let less : choiceBytes w * window ≤ states w * window = mul-le-mul-right window (omega arith) in
+    rw (le-leb (choiceBytes w * window) choices (le-trans less (r .1 .1)), le-leb (states w) rowA (r .0), le-leb (states w) rowB (r .1 .0))
+
+pub as-wide : (w : ℕ) (v : Window) (book : Book) (b : Block) (l : Lent) → AsWide w v book b l (bandedOutcome w v book b l)
+unfolding bandedOutcome wideOutcome refusal wideRefusal
+as-wide w v book b l e =
+    ap (λ (room : Bool). cond (eqb (searchRefusal w v book b room) 0) (searchedOutcome w v book b l) (refused (searchRefusal w v book b room) l))
+    (both-rooms w (v .length) (length (l .choices)) (length (l .rowA)) (length (l .rowB)) e ∙ sym e)
+
 -- ---- whatever equals the outcome meets the whole contract
-pub promised : (w : ℕ) (v : Window) (book : Book) (b : Block) → (blockRefusal v b 0 ≡ 0 → Passed v b) → (l : Lent) → l .levels ≡ b .levels → {after : Result} → after ≡ bandedOutcome w v book b l
+pub promised : (w : ℕ) (v : Window) (book : Book) (b : Block) → ((n : ℕ) → blockRefusal n v b 0 ≡ 0 → Passed v b) → (l : Lent) → l .levels ≡ b .levels → {after : Result} → after ≡ bandedOutcome w v book b l
     → PromisedIn w v book b l after
 promised w v book b within l own e =
     record {
       outcome = e;
-      exact = subst⁻¹ (λ (r : Result). RefusedExactly w v book b l (r .answer)) e (refused-15 w v book b within l);
-      least = subst⁻¹ (λ (r : Result). LeastAnswered w v book b (r .lent .levels) (r .answer)) e (least-answered w v book b within l);
-      keeps = subst⁻¹ (λ (r : Result). RefusedKeeps b (r .lent .levels) (r .answer)) e (refused-keeps w v book b within l own);
+      exact = subst⁻¹ (λ (r : Result). RefusedExactly w v book b l (r .answer)) e (refused-15 w v book b (within w) l);
+      least = subst⁻¹ (λ (r : Result). LeastAnswered w v book b (r .lent .levels) (r .answer)) e (least-answered w v book b (within w) l);
+      never-dearer = subst⁻¹ (λ (r : Result). NeverDearer w v book b l (r .answer)) e (wider w v book b within l);
+      as-wide = λ room. e ∙ as-wide w v book b l room;
+      keeps = subst⁻¹ (λ (r : Result). RefusedKeeps b (r .lent .levels) (r .answer)) e (refused-keeps w v book b (within w) l own);
     }

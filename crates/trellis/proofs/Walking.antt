@@ -1,7 +1,7 @@
 -- The walk: what each position's choice names, and what is written. Assumes nothing.
 use mathlib.Core.Path.{_≡_, refl, sym, ap, ap₂, _∙_, subst, subst⁻¹}
 use mathlib.Core.Bool.{false, cond}
-use mathlib.Core.List.{List, [], _∷_, List·Memᴰ as Mem, List·Memᴰ·head as here}
+use mathlib.Core.List.{List, [], _∷_}
 use Prim.Native.Nat.{ℕ, zero, suc, _+_, _-_, _*_, _/_, _≤_, _<_, min, zero-le}
 use native.Mathlib.Omega.{arith}
 use native.Mathlib.Nat.{add-zero, le-trans, le-of-eq, mul-suc, mul-le-mul-left}
@@ -12,18 +12,17 @@ use mir.Val.{ofZ, toZ}
 use lib.Dec.{T, leb, ltb}
 use lib.ListN.{length, getD, drop, set, length-take}
 use lib.Seq.{getD-take}
-use lib.Ieee.{Float, inf}
+use lib.Ieee.{Float}
 use lib.Ieee.Scale.{finite}
 use Rattle.block.specs.Block.{Block, covered, inputAt, inputRemaining, candidatesAt}
 use Rattle.block.specs.Band.{positionAt, pastWindow, tailOf}
-use Rattle.block.specs.Checks.{states}
+use Rattle.block.specs.Checks.{choiceBytes}
+use Rattle.half_bytes.specs.Packed.{unpacked}
 use Rattle.candidates.specs.Candidates.{inArray}
 use Rattle.least_cost.specs.Position.{Position, Tail, nz}
-use Rattle.least_cost.specs.Search.{trial, step, best, pick, walk}
-use Rattle.least_cost.proofs.Best.{AllPriced, best-costs, picked, rest-priced}
-use Rattle.least_cost.proofs.First.{found-mem}
-use Rattle.least_cost.proofs.Step.{step-allowed, step-rest, allowed-among}
-use Rattle.least_cost.proofs.Trial.{trial-listed, nz-le}
+use Rattle.least_cost.specs.Search.{best, pick, walk}
+use Rattle.least_cost.proofs.Best.{AllPriced}
+use Rattle.least_cost.proofs.Trial.{nz-le}
 use Rattle.search_checks.specs.Checked.{positions}
 use Rattle.search_checks.proofs.Checked.{inner, first-bit, first-is, positions-cons, remaining-step, remaining-few, level-current}
 use Rattle.search_checks.proofs.Writing.{WrittenTo, from-here, none-written, offer-level, offer-listed, more-written}
@@ -34,24 +33,8 @@ use Rattle.steps.specs.declared.reading.Offer.{Offer}
 use Rattle.trellis_table.specs.Rows.{leastCount, Rowable}
 use Rattle.trellis.specs.Walk.{Walkable, walked}
 use Rattle.trellis_table.specs.declared.position.Counts.{Counts}
+use Rattle.trellis_table.proofs.Picks.{pick-among, pick-cheap}
 use Rattle.trellis_table.proofs.Steps.{priced-cons, within-counts, narrow, past-few}
-
--- ---- one step of the recursion, at a state of finite cost
-module _ (t : Tail) (q : Position) (qs : List Position) (Q : AllPriced t (q ∷ qs)) (r p : ℕ) (P : p ≤ 1) (F : T (finite (best t (q ∷ qs) r p))) where
-  level : ℤ
-  level = pick t q qs r p
-
-  cheap-step : T (finite (step q r p (best t qs) (pick t q qs r p)))
-  cheap-step = subst (λ (z : Float). T (finite z)) (picked t q qs r p Q P F .value) F
-
-  member : Mem (pick t q qs r p) (q .candidates)
-  member = trial-listed (q .candidates) (pick t q qs r p) (found-mem (step q r p (best t qs)) (inf false) (trial (q .candidates)) (best t (q ∷ qs) r p) (pick t q qs r p) (picked t q qs r p Q P F))
-
-  pick-among : nz (pick t q qs r p) ≤ r
-  pick-among = allowed-among q r (pick t q qs r p) (step-allowed q r p (best t qs) (pick t q qs r p) cheap-step)
-
-  pick-cheap : T (finite (best t qs (r - nz (pick t q qs r p)) (nz (pick t q qs r p))))
-  pick-cheap = step-rest q r p (best t qs) (pick t q qs r p) (Q .each q (here refl)) (best-costs t qs (rest-priced Q)) P member cheap-step
 
 pub here-room : (n i len long : ℕ) → i < len → n * len ≤ long → n * i + n ≤ long
 here-room n i len long h k = le-trans (le-of-eq (sym (mul-suc n i))) (le-trans (mul-le-mul-left n h) k)
@@ -122,11 +105,11 @@ module _ {hw : ℕ} {scan : List ℕ} {source inverse : List Float} {levels₀ :
           let few = narrow rowable i h counts low-is refl in
           (inside .0, omega (arith, inside .1))
 
-      pub named-below : getD choices (states hw * i + (2 * (left - low) + prev)) 0 < length (candidatesAt (plan .window) (w .searched .block) i)
+      pub named-below : getD (unpacked choices) (2 * (choiceBytes hw * i) + (2 * (left - low) + prev)) 0 < length (candidatesAt (plan .window) (w .searched .block) i)
       unfolding positionAt
       named-below = rw low-is (w .chosen .each i zero-le h .stands .below left prev (W .bit) finite-here)
 
-      pub named : getD (candidatesAt (plan .window) (w .searched .block) i) (getD choices (states hw * i + (2 * (left - low) + prev)) 0) (pos 0)
+      pub named : getD (candidatesAt (plan .window) (w .searched .block) i) (getD (unpacked choices) (2 * (choiceBytes hw * i) + (2 * (left - low) + prev)) 0) (pos 0)
           ≡ pick (tailOf (plan .window) (w .book) (w .searched .block)) (positionAt hw (plan .window) (w .book) (w .searched .block) i) (positions hw (plan .window) (w .book) (w .searched .block) (suc i)) left prev
       unfolding positionAt
       named = rw low-is (w .chosen .each i zero-le h .stands .picks left prev (W .bit) finite-here)
@@ -145,22 +128,28 @@ module _ {hw : ℕ} {scan : List ℕ} {source inverse : List Float} {levels₀ :
 
     -- ---- one turn of the loop
     module _ {offer : Offer} {array : List ℤ} (S : (b' : Block) → Lists b' scan source inverse levels → Planned b' plan → Offered (plan .window) b' i offer array) (U : Usable (inArray (offer .count) array))
-        {n low idx : ℕ} (N : n ≡ nz (toZ w32 (ofZ w32 (offer .level)))) (l : low ≡ leastCount hw past (after - n)) (x : idx ≡ getD choices (states hw * i + (2 * (left - low) + prev)) 0) where
+        {n low idx : ℕ} (N : n ≡ nz (toZ w32 (ofZ w32 (offer .level)))) (l : low ≡ leastCount hw past (after - n)) (x : getD (unpacked choices) (2 * (choiceBytes hw * i) + (2 * (left - low) + prev)) 0 ≤ 14 → idx ≡ getD (unpacked choices) (2 * (choiceBytes hw * i) + (2 * (left - low) + prev)) 0) where
       read-level : n ≡ nz (offer .level)
       read-level = N ∙ ap nz (handed-back _ _ (offer-level (w .searched) _ (W .prefix) h S) (level-current (w .searched .checked) i h) ∙ sym (offer-level (w .searched) _ (W .prefix) h S))
 
       follow : after - n ≡ inputRemaining (w .searched .block) (covered (w .searched .block) + suc i)
       follow = after-now S (ap (λ (m : ℕ). after - m) read-level)
 
+      -- the half byte read is no "none"
+      index-is : idx ≡ getD (unpacked choices) (2 * (choiceBytes hw * i) + (2 * (left - low) + prev)) 0
+      index-is =
+          let k : getD (unpacked choices) (2 * (choiceBytes hw * i) + (2 * (left - low) + prev)) 0 < length (listed (inArray (offer .count) array)) = rw (offer-listed (w .searched) _ (W .prefix) h S) (named-below follow l) in
+          x (omega (arith, k, length-take (offer .count) array, U .few))
+
       pub index-below : idx < offer .count
       index-below =
-          let k : getD choices (states hw * i + (2 * (left - low) + prev)) 0 < length (listed (inArray (offer .count) array)) = rw (offer-listed (w .searched) _ (W .prefix) h S) (named-below follow l) in
-          omega (arith, length-take (offer .count) array)
+          let k : getD (unpacked choices) (2 * (choiceBytes hw * i) + (2 * (left - low) + prev)) 0 < length (listed (inArray (offer .count) array)) = rw (offer-listed (w .searched) _ (W .prefix) h S) (named-below follow l) in
+          omega (arith, index-is, length-take (offer .count) array)
 
       pub level-named : getD array idx (pos 0) ≡ pick (tailOf (plan .window) (w .book) (w .searched .block)) (positionAt hw (plan .window) (w .book) (w .searched .block) i) (positions hw (plan .window) (w .book) (w .searched .block) (suc i)) left prev
       level-named =
           sym (getD-take (offer .count) array idx (pos 0) index-below)
-          ∙ ap₂ (λ (c : List ℤ) (m : ℕ). getD c m (pos 0)) (offer-listed (w .searched) _ (W .prefix) h S) x
+          ∙ ap₂ (λ (c : List ℤ) (m : ℕ). getD c m (pos 0)) (offer-listed (w .searched) _ (W .prefix) h S) index-is
           ∙ named follow l
 
       level-handed : toZ w32 (ofZ w32 (getD array idx (pos 0))) ≡ getD array idx (pos 0)

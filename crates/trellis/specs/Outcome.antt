@@ -8,7 +8,7 @@ use lib.ListN.{length}
 use lib.Ieee.Scale.{finite}
 use Rattle.block.specs.Band.{problemOf}
 use Rattle.block.specs.Block.{Block, covered}
-use Rattle.block.specs.Checks.{searchRefusal, trellisRoom}
+use Rattle.block.specs.Checks.{searchRefusal, trellisRoom, wideRoom}
 use Rattle.block.specs.Outcome.{Lent, Result, cleared, refused}
 use Rattle.block.specs.declared.Answer.{Answer}
 use Rattle.block.specs.declared.Answer.the-variants.{Cost, Refused}
@@ -29,13 +29,22 @@ written w v book b =
     let p = problemOf w v book b in
     cond (finite (leastTotal p)) (put (b .scan) (leastLevels p) (covered b) (v .length) (b .levels)) (b .levels)
 
+-- Of a block that passed its checks, the room ends cleared. The lent levels are the block's.
+unfoldable pub searchedOutcome : ℕ → Window → Book → Block → Lent → Result
+searchedOutcome w v book b l =
+    record { answer = answered w v book b; lent = cleared (record { levels = written w v book b; choices = l .choices; rowA = l .rowA; rowB = l .rowB }) }
+
 -- the number of the first check that refuses; 0 where none does
 unfoldable pub refusal : ℕ → Window → Book → Block → Lent → ℕ
-refusal w v book b l = searchRefusal v book b (trellisRoom w (v .length) (length (l .choices)) (length (l .rowA)) (length (l .rowB)))
+refusal w v book b l = searchRefusal w v book b (trellisRoom w (v .length) (length (l .choices)) (length (l .rowA)) (length (l .rowB)))
 
--- Refused by a check, nothing changes; else the room is cleared. The lent levels are the block's.
+-- Refused by a check, nothing changes.
 unfoldable pub bandedOutcome : ℕ → Window → Book → Block → Lent → Result
-bandedOutcome w v book b l =
-    cond (eqb (refusal w v book b l) 0)
-    (record { answer = answered w v book b; lent = cleared (record { levels = written w v book b; choices = l .choices; rowA = l .rowA; rowB = l .rowB }) })
-    (refused (refusal w v book b l) l)
+bandedOutcome w v book b l = cond (eqb (refusal w v book b l) 0) (searchedOutcome w v book b l) (refused (refusal w v book b l) l)
+
+-- The same with a byte for each choice, as document 01 has it: twice the room is asked, and what was lent ends cleared.
+unfoldable pub wideRefusal : ℕ → Window → Book → Block → Lent → ℕ
+wideRefusal w v book b l = searchRefusal w v book b (wideRoom w (v .length) (length (l .choices)) (length (l .rowA)) (length (l .rowB)))
+
+unfoldable pub wideOutcome : ℕ → Window → Book → Block → Lent → Result
+wideOutcome w v book b l = cond (eqb (wideRefusal w v book b l) 0) (searchedOutcome w v book b l) (refused (wideRefusal w v book b l) l)

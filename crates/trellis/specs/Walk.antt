@@ -9,7 +9,7 @@ use lib.Ieee.{Float}
 use lib.Ieee.Scale.{finite}
 use Rattle.block.specs.Block.{Block, covered, inputRemaining}
 use Rattle.block.specs.Band.{pastWindow, problemOf, tailOf}
-use Rattle.block.specs.Checks.{states}
+use Rattle.block.specs.Checks.{choiceBytes, states}
 use Rattle.block.specs.Cost.{firstPrev}
 use Rattle.least_cost.specs.Search.{best, walk, leastTotal, leastCount}
 use Rattle.prices.specs.Book.{Book}
@@ -19,6 +19,12 @@ use Rattle.trellis_table.specs.Rows.{ChosenFrom}
 use Rattle.weights.specs.declared.Window.{Window}
 use Rattle.trellis.specs.declared.search.Found.{Found}
 
+-- room for a search, as check 14 asks it
+pub record Roomy (width : ℕ) (v : Window) (choices : List ℕ) (rowA rowB : List Float) : Type 0 where
+  pub first : states width ≤ length rowA
+  pub second : states width ≤ length rowB
+  pub choices-long : choiceBytes width * v .length ≤ length choices
+
 -- what the walk goes by: rows and choices that are done, and a count of finite cost
 pub record Walkable (width : ℕ) (scan : List ℕ) (source inverse : List Float) (levels : List ℤ) (plan : Plan) (past nonzeros : ℕ) (choices : List ℕ) (count : ℕ) : Type 0 where
   pub narrow : width ≤ 12
@@ -27,7 +33,7 @@ pub record Walkable (width : ℕ) (scan : List ℕ) (source inverse : List Float
   pub past-is : past ≡ pastWindow (plan .window) (searched .block)
   pub nonzeros-are : nonzeros ≡ inputRemaining (searched .block) (covered (searched .block))
   pub chosen : ChosenFrom width (plan .window) book (searched .block) 0 choices
-  pub room : states width * plan .window .length ≤ length choices
+  pub room : choiceBytes width * plan .window .length ≤ length choices
   pub cheap : T (finite (best (tailOf (plan .window) book (searched .block)) (positions width (plan .window) book (searched .block) 0) count (firstPrev (searched .block) count)))
 
 -- the levels of the walk from `count` on
@@ -48,4 +54,4 @@ pub record Done (width : ℕ) (scan : List ℕ) (source inverse : List Float) (l
   pub book : Book
   pub searched : Searched book scan source inverse levels plan
   pub found : FoundIn width (plan .window) book (searched .block) choices f
-  pub room : states width * plan .window .length ≤ length choices
+  pub room : choiceBytes width * plan .window .length ≤ length choices

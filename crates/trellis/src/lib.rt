@@ -5,23 +5,31 @@ mod walk;
 use bias::DequantBias;
 use block::Answer;
 use block::Shape;
+use weights::SearchSettings;
 use weights::Settings;
 ghost use mathlib.Core.Path.{_≡_};
 ghost use Prim.Native.Nat.{_≤_, _<_};
 ghost use Rattle.block.specs.Block.{blockOf, covered};
+ghost use Rattle.block.specs.Checks.{choiceBytes};
 ghost use Rattle.block.specs.Outcome.{lentOf, resultOf};
 ghost use Rattle.prices.specs.Book.{bookOf};
+ghost use Rattle.search_checks.specs.Checked.{Accepted};
 ghost use Rattle.weights.specs.Window.{windowFor};
-ghost use Rattle.trellis.specs.Demand.{PromisedIn, Promised};
-ghost use Rattle.trellis.specs.Outcome.{refusal};
+ghost use Rattle.trellis.specs.Demand.{Promised};
+ghost use Rattle.trellis.specs.Outcome.{searchedOutcome};
+ghost use Rattle.trellis.specs.Walk.{Roomy};
 
-// Document 01's half-width of the band, and a cap that leaves its window whole.
-pub const HALF_WIDTH: usize = 6;
+// The choice bytes of a window position, half of a row's costs, for any half-width that a caller may set.
+pub fn choice_bytes(width: usize) -> usize
+    requires { ⌜ width < 4294967296 ⌝ }
+    ensures { λ r. ⌜ r ≡ choiceBytes width ⌝ }
+{
+    2 * width + 2
+}
 
-pub const WINDOW_CAP: usize = 1024;
-
-// The search alone, for arguments that no check refuses: a band of half-width `width`, a window of at most `cap` positions.
+// The search alone, of a block that passed its checks: a band of half-width `width`, a window of at most `cap` positions, by the factored walk or by the other.
 pub fn search_banded(
+    factored: bool,
     clusters: u32,
     map: &[u8],
     configs: &[u8],
@@ -41,15 +49,17 @@ pub fn search_banded(
     width: usize,
     cap: usize,
 ) -> Answer
-    requires { ⌜ (width ≤ 12) × (0 < cap) ⌝ }
-    requires { ⌜ (let b = blockOf shape settings bias scale (now scan) (now source) (now «inv_qm») (now levels) in refusal width (windowFor cap (covered b)) (bookOf clusters (now map) (now configs) (now symbols) (now ready)) b (lentOf (now levels) (now choices) (now «row_a») (now «row_b»)) ≡ 0) ⌝ }
-    ensures { λ r. ⌜ (let b = blockOf shape settings bias scale (now (scan .entry)) (now (source .entry)) (now («inv_qm» .entry)) (now (levels .entry)) in PromisedIn width (windowFor cap (covered b))
-        (bookOf clusters (now (map .entry)) (now (configs .entry)) (now (symbols .entry)) (now (ready .entry))) b
-        (lentOf (now (levels .entry)) (now (choices .entry)) (now («row_a» .entry)) (now («row_b» .entry)))
-        (resultOf r (now (levels .exit)) (now (choices .exit)) (now («row_a» .exit)) (now («row_b» .exit)))) ⌝ }
+    requires { ⌜ width ≤ 12 ⌝ }
+    requires { ⌜ (let b = blockOf shape settings bias scale (now scan) (now source) (now «inv_qm») (now levels) in let v = windowFor cap (covered b) in
+        Accepted v (bookOf clusters (now map) (now configs) (now symbols) (now ready)) b × Roomy width v (now choices) (now «row_a») (now «row_b»)) ⌝ }
+    ensures { λ r. ⌜ (let b = blockOf shape settings bias scale (now (scan .entry)) (now (source .entry)) (now («inv_qm» .entry)) (now (levels .entry)) in
+        resultOf r (now (levels .exit)) (now (choices .exit)) (now («row_a» .exit)) (now («row_b» .exit))
+        ≡ searchedOutcome width (windowFor cap (covered b)) (bookOf clusters (now (map .entry)) (now (configs .entry)) (now (symbols .entry)) (now (ready .entry))) b
+        (lentOf (now (levels .entry)) (now (choices .entry)) (now («row_a» .entry)) (now («row_b» .entry)))) ⌝ }
 {
     let plan = steps::reading::plan_of(shape, settings, bias, scale, cap);
     let found = search::search(
+        factored,
         clusters,
         map,
         configs,
@@ -76,15 +86,19 @@ pub fn search_banded(
     answer
 }
 
-// The checks, then the search.
-pub fn rdoq_block_banded_in(
+// Writes the levels of a least-cost choice in the band, and answers its cost and its count of nonzero levels from scan position c on; or
+// refuses with 15 where every choice there needs a token of infinite price. Both ways the choice bytes end as 255 and the rows as
+// +infinity, surplus included. `factored` says which of the Rust's two walks finds it; answer and buffers do not depend on it. Room, for a half-width of w: 2w + 2 choice bytes a window position, and two rows of 2(2w + 2) costs. Refused by one of its checks, nothing changes. A level written
+// may be 32,768 in size, which check 12 refuses in a later call.
+pub fn rdoq_block_banded(
+    factored: bool,
     clusters: u32,
     map: &[u8],
     configs: &[u8],
     symbols: &[f32],
     ready: &[f32],
     shape: Shape,
-    settings: Settings,
+    settings: SearchSettings,
     bias: DequantBias,
     scale: f32,
     scan: &[u32],
@@ -94,16 +108,15 @@ pub fn rdoq_block_banded_in(
     choices: &mut [u8],
     row_a: &mut [f32],
     row_b: &mut [f32],
-    width: usize,
-    cap: usize,
 ) -> Answer
-    requires { ⌜ (width ≤ 12) × (0 < cap) ⌝ }
-    ensures { λ r. ⌜ (let b = blockOf shape settings bias scale (now (scan .entry)) (now (source .entry)) (now («inv_qm» .entry)) (now (levels .entry)) in PromisedIn width (windowFor cap (covered b))
-        (bookOf clusters (now (map .entry)) (now (configs .entry)) (now (symbols .entry)) (now (ready .entry))) b
+    ensures { λ r. ⌜ Promised (settings .«half_width»)
+        (bookOf clusters (now (map .entry)) (now (configs .entry)) (now (symbols .entry)) (now (ready .entry)))
+        (blockOf shape (settings .weighing) bias scale (now (scan .entry)) (now (source .entry)) (now («inv_qm» .entry)) (now (levels .entry)))
         (lentOf (now (levels .entry)) (now (choices .entry)) (now («row_a» .entry)) (now («row_b» .entry)))
-        (resultOf r (now (levels .exit)) (now (choices .exit)) (now («row_a» .exit)) (now («row_b» .exit)))) ⌝ }
+        (resultOf r (now (levels .exit)) (now (choices .exit)) (now («row_a» .exit)) (now («row_b» .exit))) ⌝ }
 {
-    let states = 2 * (2 * width + 2);
+    let width = settings.half_width as usize;
+    let bytes = choice_bytes(width);
     let refusal = search_checks::check_search(
         clusters,
         map,
@@ -111,16 +124,17 @@ pub fn rdoq_block_banded_in(
         symbols,
         ready,
         shape,
-        settings,
+        settings.weighing,
         bias,
         scale,
         scan,
         source,
         inv_qm,
         levels,
-        cap,
-        states,
-        states,
+        settings.half_width,
+        weights::WINDOW_CAP,
+        bytes,
+        2 * bytes,
         choices.len(),
         row_a.len(),
         row_b.len(),
@@ -129,13 +143,14 @@ pub fn rdoq_block_banded_in(
         return Answer::Refused(refusal);
     }
     search_banded(
+        factored,
         clusters,
         map,
         configs,
         symbols,
         ready,
         shape,
-        settings,
+        settings.weighing,
         bias,
         scale,
         scan,
@@ -146,56 +161,6 @@ pub fn rdoq_block_banded_in(
         row_a,
         row_b,
         width,
-        cap,
-    )
-}
-
-// Writes the levels of a least-cost choice in the band, and answers its cost and its count of nonzero levels from scan position c on; or
-// refuses with 15 where every choice there needs a token of infinite price. Both ways the choice bytes end as 255 and the rows as
-// +infinity, surplus included. Room: 28 choice bytes a window position, and two rows of 28. Refused by one of the checks, nothing changes. A level written may be 32,768 in size, which check 12 refuses in a
-// later call.
-pub fn rdoq_block_banded(
-    clusters: u32,
-    map: &[u8],
-    configs: &[u8],
-    symbols: &[f32],
-    ready: &[f32],
-    shape: Shape,
-    settings: Settings,
-    bias: DequantBias,
-    scale: f32,
-    scan: &[u32],
-    source: &[f32],
-    inv_qm: &[f32],
-    levels: &mut [i32],
-    choices: &mut [u8],
-    row_a: &mut [f32],
-    row_b: &mut [f32],
-) -> Answer
-    ensures { λ r. ⌜ Promised
-        (bookOf clusters (now (map .entry)) (now (configs .entry)) (now (symbols .entry)) (now (ready .entry)))
-        (blockOf shape settings bias scale (now (scan .entry)) (now (source .entry)) (now («inv_qm» .entry)) (now (levels .entry)))
-        (lentOf (now (levels .entry)) (now (choices .entry)) (now («row_a» .entry)) (now («row_b» .entry)))
-        (resultOf r (now (levels .exit)) (now (choices .exit)) (now («row_a» .exit)) (now («row_b» .exit))) ⌝ }
-{
-    rdoq_block_banded_in(
-        clusters,
-        map,
-        configs,
-        symbols,
-        ready,
-        shape,
-        settings,
-        bias,
-        scale,
-        scan,
-        source,
-        inv_qm,
-        levels,
-        choices,
-        row_a,
-        row_b,
-        HALF_WIDTH,
-        WINDOW_CAP,
+        weights::WINDOW_CAP,
     )
 }

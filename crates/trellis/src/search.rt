@@ -13,7 +13,7 @@ ghost use mathlib.Core.Path.{_≡_};
 ghost use Prim.Native.Nat.{_*_, _≤_};
 ghost use lib.ListN.{length};
 ghost use Rattle.block.specs.Block.{Block, blockOf};
-ghost use Rattle.block.specs.Checks.{states};
+ghost use Rattle.block.specs.Checks.{choiceBytes, states};
 ghost use Rattle.prices.specs.Book.{Book, bookOf};
 ghost use Rattle.search_checks.specs.Start.{Starts};
 ghost use Rattle.trellis_table.specs.Rows.{Rowable, TailRow, Kept};
@@ -76,6 +76,7 @@ pub(crate) fn write_found(
 
 // The search of a block that passed its checks.
 pub(crate) fn search(
+    factored: bool,
     clusters: u32,
     map: &[u8],
     configs: &[u8],
@@ -96,7 +97,7 @@ pub(crate) fn search(
     width: usize,
 ) -> Found
     requires { ⌜ Rowable width (bookOf clusters (now map) (now configs) (now symbols) (now ready)) (blockOf shape settings bias scale (now scan) (now source) (now «inv_qm») (now levels)) plan ⌝ }
-    requires { ⌜ (states width ≤ length (now «row_a»)) × ((states width ≤ length (now «row_b»)) × (states width * plan .window .length ≤ length (now choices))) ⌝ }
+    requires { ⌜ (states width ≤ length (now «row_a»)) × ((states width ≤ length (now «row_b»)) × (choiceBytes width * plan .window .length ≤ length (now choices))) ⌝ }
     ensures { λ r. ⌜ Kept (now («row_a» .entry)) (now («row_a» .exit)) (now («row_b» .entry)) (now («row_b» .exit)) (now (choices .entry)) (now (choices .exit)) ⌝ }
     ensures { λ r. ⌜ FoundIn width (plan .window) (bookOf clusters (now (map .entry)) (now (configs .entry)) (now (symbols .entry)) (now (ready .entry))) (blockOf shape settings bias scale (now (scan .entry)) (now (source .entry)) (now («inv_qm» .entry)) (now (levels .entry))) (now (choices .exit)) r ⌝ }
 {
@@ -104,6 +105,7 @@ pub(crate) fn search(
     let past = start.past;
     start_row(start, row_a);
     let last = exchange::take_positions(
+        factored,
         clusters,
         map,
         configs,

@@ -5,11 +5,12 @@ ghost use mathlib.Core.Path.{_≡_};
 ghost use Prim.Native.Nat.{_+_, _-_, _*_, _≤_, _<_};
 ghost use lib.ListN.{length, getD};
 ghost use Rattle.block.specs.Block.{covered};
-ghost use Rattle.block.specs.Checks.{states};
+ghost use Rattle.block.specs.Checks.{choiceBytes};
+ghost use Rattle.half_bytes.specs.Packed.{unpacked};
 ghost use Rattle.scan.specs.Scan.{put};
 ghost use Rattle.trellis.specs.Walk.{Walkable, walked};
 
-// The choice at a position, for `left` remaining and `prev`.
+// The choice at a position, for `left` remaining and `prev`, where there is one.
 fn choice_at(
     choices: &[u8],
     i: usize,
@@ -18,11 +19,11 @@ fn choice_at(
     prev: usize,
     width: usize,
 ) -> usize
-    requires { ⌜ (i < 1024) × ((left ≤ 131072) × (states width * i + states width ≤ length (now choices))) ⌝ }
+    requires { ⌜ (i < 1024) × ((left ≤ 131072) × (choiceBytes width * i + choiceBytes width ≤ length (now choices))) ⌝ }
     requires { ⌜ (least ≤ left) × ((left ≤ least + (2 * width + 1)) × ((prev ≤ 1) × (width ≤ 12))) ⌝ }
-    ensures { λ r. ⌜ r ≡ getD (now (choices .entry)) (states width * i + (2 * (left - least) + prev)) 0 ⌝ }
+    ensures { λ r. ⌜ (let choice = getD (unpacked (now (choices .entry))) (2 * (choiceBytes width * i) + (2 * (left - least) + prev)) 0 in choice ≤ 14 → r ≡ choice) ⌝ }
 {
-    choices[2 * (2 * width + 2) * i + (2 * (left - least) + prev)] as usize
+    half_bytes::half(choices, (2 * width + 2) * i + (left - least), prev) as usize
 }
 
 // `nonzeros` counts the input's from the first position on, `count` those that the walk leaves.

@@ -7,12 +7,12 @@ use native.Mathlib.Omega.{arith}
 use lib.IntN.{ℤ, pos}
 use lib.Dec.{T, eqb, ltb}
 use lib.ListN.{length, getD, List·getD-eq-default}
-use lib.Ieee.{Float, inf, lt, eq, add, binary32}
+use lib.Ieee.{Float, inf, lt, le, eq, add, binary32}
 use lib.Ieee.Scale.{finite}
 use borrow.Author.Tests.{eqb-true, ltb-true, ltb-false}
 use Rattle.costs.specs.Cost.{cost}
-use Rattle.costs.proofs.Order.{inf-lt, lt-inf, infinite}
-use Rattle.costs.proofs.Sum.{add-inf, add-cost}
+use Rattle.costs.proofs.Order.{inf-lt, inf-le, lt-inf, lt→le, le-refl, infinite}
+use Rattle.costs.proofs.Sum.{add-inf, add-cost, add-mono-left}
 use Rattle.least_cost.specs.Position.{nz}
 use Rattle.least_cost.specs.Search.{least, holder, nonzeros, hasZero}
 use Rattle.least_cost.specs.Factored.{runnerUp, firstEqual}
@@ -53,6 +53,47 @@ module _ (g : ℤ → Float) (levels : List ℤ) (G : (c : ℤ) → Mem c levels
         where
           not-tied : eq (add binary32 (runnerUp g (inf false) (inf false) (nonzeros levels)) x) y ≡ false → T (not (eq (add binary32 (runnerUp g (inf false) (inf false) (nonzeros levels)) x) (add binary32 (least g (inf false) (nonzeros levels)) x)))
           not-tied f = subst⁻¹ (λ (b : Bool). T (not b)) (rw (e ∙ ap (λ (z : Float). add binary32 z x) (w .cost)) at f) tt
+
+-- what the least took the place of is no less
+runner-up : (g : ℤ → Float) (v u : Float) (cs : List ℤ) → T (cost v) → T (cost u) → ((c : ℤ) → Mem c cs → T (cost (g c))) → T (le v u)
+    → T (le (least g v cs) (runnerUp g v u cs)) × T (cost (runnerUp g v u cs))
+unfolding least runnerUp
+runner-up g v u [] C D G h = (h, D)
+runner-up g v u (c ∷ cs) C D G h =
+    go (lt (g c) v) (lt→le (g c) v) (runner-up g (g c) v cs (G c (here refl)) C (λ q m. G q (there m))) (runner-up g v u cs C D (λ q m. G q (there m)))
+  where
+    go : (b : Bool) → (T b → T (le (g c) v))
+        → (T (le (g c) v) → T (le (least g (g c) cs) (runnerUp g (g c) v cs)) × T (cost (runnerUp g (g c) v cs)))
+        → (T (le v u) → T (le (least g v cs) (runnerUp g v u cs)) × T (cost (runnerUp g v u cs)))
+        → T (le (least g (cond b (g c) v) cs) (runnerUp g (cond b (g c) v) (cond b v u) cs)) × T (cost (runnerUp g (cond b (g c) v) (cond b v u) cs))
+    go true k taken left = taken (k tt)
+    go false k taken left = left h
+
+module _ (g : ℤ → Float) (levels : List ℤ) (G : (c : ℤ) → Mem c levels → T (cost (g c))) (x : Float) (X : T (cost x)) (l : Least) (w : FirstLeast g levels l) where
+  least-sound : T (cost (l .cost))
+  unfolding cost
+  least-sound = rw (w .cost) (least-cost g (inf false) (nonzeros levels) tt (λ c m. G c (nonzeros-listed levels c m)))
+
+  pub sum-sound : T (cost (add binary32 (l .cost) x))
+  sum-sound = add-cost binary32 (l .cost) x least-sound X
+
+  -- so an infinite least sum ties with it
+  pub infinite-ties : T (not (finite (add binary32 (l .cost) x))) → eq (add binary32 (l .before) x) (add binary32 (l .cost) x) ≡ true
+  unfolding cost eq
+  infinite-ties f =
+      let above = runner-up g (inf false) (inf false) (nonzeros levels) tt tt (λ c m. G c (nonzeros-listed levels c m)) (le-refl (inf false) tt) in
+      let B : T (cost (l .before)) = rw (w .before) (above .1) in
+      let sum = infinite (add binary32 (l .cost) x) sum-sound f in
+      let no-less : T (le (l .cost) (l .before)) = rw (w .cost, w .before) (above .0) in
+      let dear = rw sum at (add-mono-left binary32 (l .cost) (l .before) x least-sound B X no-less) in
+      rw (sum, inf-le (add binary32 (l .before) x) (add-cost binary32 (l .before) x B X) dear)
+
+-- the test of a sum against +infinity
+pub not-finite : (y : Float) → T (cost y) → lt y (inf false) ≡ false → T (finite y) → ⊥
+not-finite y C e f = subst T (sym (lt-inf y C) ∙ e) f
+
+pub not-infinite : (y : Float) → T (cost y) → lt y (inf false) ≡ true → T (not (finite y)) → ⊥
+not-infinite y C e f = subst (λ (b : Bool). T (not b)) (sym (lt-inf y C) ∙ e) f
 
 -- a level that is not 0 stands within the list
 pub stands-below : (levels : List ℤ) (i : ℕ) → nz (getD levels i (pos 0)) ≡ 1 → i < length levels
@@ -104,6 +145,14 @@ module _ {g : ℤ → Float} {levels : List ℤ} {local : List Float} {l : Least
   unfolding nonzeroCost cost
   sum-cost = least-cost (with g x) (inf false) (nonzeros levels) tt sums
 
+  zero-cost : T (cost (zeroCost g z levels))
+  unfolding zeroCost cost
+  zero-cost = go (hasZero levels) refl
+    where
+      go : (b : Bool) → hasZero levels ≡ b → T (cost (cond b (with g z (pos 0)) (inf false)))
+      go true h = add-cost binary32 (g (pos 0)) z (k .costs (pos 0) (zero-listed levels h)) Z
+      go false h = tt
+
   -- 0 is cheaper
   pub settled-zero : (u : Float) (i : ℕ) → u ≡ cond (lt z (inf false)) (add binary32 zero z) (inf false) → lt u (add binary32 (l .cost) x) ≡ true → ZeroAt levels i → Settled g x z levels (record { cost = u; choice = i })
   unfolding stateCost stateLevel
@@ -111,7 +160,13 @@ module _ {g : ℤ → Float} {levels : List ℤ} {local : List Float} {l : Least
       let same = e ∙ zero-sum in
       let less : lt (zeroCost g z levels) (nonzeroCost g x levels) ≡ true = rw (same, sum) at t in
       let has = listed (hasZero levels) refl less in
-      record { cost = rw less same; level = λ _. rw less (at .zero has); below = λ _. at .below has }
+      record {
+        cost = rw less same;
+        level = λ _. rw less (at .zero has);
+        below = λ _. at .below has;
+        none = λ f.
+            absurd (true≢false (sym less ∙ ap (λ (y : Float). lt y (nonzeroCost g x levels)) (infinite (zeroCost g z levels) zero-cost (rw same at f)) ∙ inf-lt (nonzeroCost g x levels) sum-cost));
+      }
     where
       listed : (b : Bool) → hasZero levels ≡ b → lt (zeroCost g z levels) (nonzeroCost g x levels) ≡ true → hasZero levels ≡ true
       listed true h less = h
@@ -122,9 +177,14 @@ module _ {g : ℤ → Float} {levels : List ℤ} {local : List Float} {l : Least
   one f = nonzeros-count levels _ (found-mem (with g x) (inf false) (nonzeros levels) _ _ (finite-found (with g x) (pos 0) (nonzeros levels) sums f))
 
   -- 0 is not cheaper
-  pub settled-nonzero : (u : Float) (i : ℕ) → u ≡ cond (lt z (inf false)) (add binary32 zero z) (inf false) → lt u (add binary32 (l .cost) x) ≡ false
+  pub settled-nonzero : (u : Float) (i : ℕ) → u ≡ cond (lt z (inf false)) (add binary32 zero z) (inf false) → lt u (add binary32 (l .cost) x) ≡ false → (T (not (finite (add binary32 (l .cost) x))) → i ≡ 255)
       → (T (finite (add binary32 (l .cost) x)) → getD levels i (pos 0) ≡ holder (with g x) (inf false) (pos 0) (nonzeros levels)) → Settled g x z levels (record { cost = add binary32 (l .cost) x; choice = i })
   unfolding stateCost stateLevel
-  settled-nonzero u i e t choice =
+  settled-nonzero u i e t none choice =
       let less : lt (zeroCost g z levels) (nonzeroCost g x levels) ≡ false = rw (e ∙ zero-sum, sum) at t in
-      record { cost = rw less sum; level = λ f. rw less (choice f); below = λ f. stands-below levels i (rw (choice f) (one (rw sum at f))) }
+      record {
+        cost = rw less sum;
+        level = λ f. rw less (choice f);
+        below = λ f. stands-below levels i (rw (choice f) (one (rw sum at f)));
+        none = none;
+      }

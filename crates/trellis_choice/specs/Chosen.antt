@@ -46,11 +46,12 @@ pub record ZeroAt (levels : List ℤ) (i : ℕ) : Type 0 where
   pub below : hasZero levels ≡ true → i < length levels
   pub zero : hasZero levels ≡ true → getD levels i (pos 0) ≡ pos 0
 
--- the state's cost, and where it is finite the index of its level
+-- the state's cost, and where it is finite the index of its level, else 255
 pub record Settled (g : ℤ → Float) (x z : Float) (levels : List ℤ) (r : Chosen) : Type 0 where
   pub cost : r .cost ≡ stateCost g x z levels
   pub level : T (finite (r .cost)) → getD levels (r .choice) (pos 0) ≡ stateLevel g x z levels
   pub below : T (finite (r .cost)) → r .choice < length levels
+  pub none : T (not (finite (r .cost))) → r .choice ≡ 255
 
 -- a nonzero level whose local cost with the tail is x
 unfoldable pub isTie : ℤ → Float → Float → Float → Bool

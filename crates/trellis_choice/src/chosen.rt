@@ -1,7 +1,7 @@
 // The level of one state.
 use crate::locals::Least;
 ghost use mathlib.Core.Path.{_≡_};
-ghost use mathlib.Core.Bool.{false, cond};
+ghost use mathlib.Core.Bool.{false, not, cond};
 ghost use Prim.Native.Nat.{_<_};
 ghost use lib.IntN.{ℤ, pos};
 ghost use lib.ListN.{getD};
@@ -68,7 +68,8 @@ pub fn zero_index(levels: &[i32; 5], count: usize) -> u8
     255
 }
 
-// The choice among the nonzero candidates: adding the tail may round different local costs to the same sum, and then the earliest stays.
+// The choice among the nonzero candidates: adding the tail may round different local costs to the same sum, and then the earliest stays. An
+// infinite sum always ties with what the least took the place of, so that only ties need the test.
 fn nonzero_choice(
     levels: &[i32; 5],
     count: usize,
@@ -80,9 +81,14 @@ fn nonzero_choice(
     requires { ⌜ Usable (inArray count (now levels)) ⌝ }
     ensures { λ r. ⌜ ((g : ℤ → Float) → Each g (listed (inArray count (now (levels .entry)))) (now (local .entry)) → FirstLeast g (listed (inArray count (now (levels .entry)))) least → ((c : ℤ) → List·Memᴰ c (listed (inArray count (now (levels .entry)))) → T (isCost (g c)))
         → T (isCost tail) → cost ≡ add binary32 (least .cost) tail → T (finite cost) → getD (listed (inArray count (now (levels .entry)))) r (pos 0) ≡ holder (with g tail) (inf false) (pos 0) (nonzeros (listed (inArray count (now (levels .entry)))))) ⌝ }
+    ensures { λ r. ⌜ ((g : ℤ → Float) → FirstLeast g (listed (inArray count (now (levels .entry)))) least → ((c : ℤ) → List·Memᴰ c (listed (inArray count (now (levels .entry)))) → T (isCost (g c)))
+        → T (isCost tail) → cost ≡ add binary32 (least .cost) tail → T (not (finite cost)) → r ≡ 255) ⌝ }
 {
     if least.before + tail == cost {
-        return first_tied(levels, count, local, tail, cost, least.choice);
+        if cost < costs::infinity() {
+            return first_tied(levels, count, local, tail, cost, least.choice);
+        }
+        return 255;
     }
     least.choice
 }
@@ -98,7 +104,7 @@ fn with_tail(local: f32, tail: f32) -> f32
     none
 }
 
-// The least cost of a state, and its candidate's index where that is finite. `zero` is the local cost of 0 and `zero_index` its index.
+// The least cost of a state, and its candidate's index where that is finite, else 255. `zero` is the local cost of 0 and `zero_index` its index.
 pub fn choose(
     levels: &[i32; 5],
     count: usize,

@@ -16,6 +16,8 @@ use Rattle.ac_context.specs.Contexts.{CountsAlike}
 use Rattle.costs.specs.Cost.{cost}
 use Rattle.costs.proofs.Order.{infinite, lt-inf}
 use Rattle.costs.proofs.Sum.{add-inf}
+use Rattle.half_bytes.specs.Packed.{kept}
+use Rattle.half_bytes.proofs.Laws.{kept-few, kept-none}
 use Rattle.least_cost.specs.Search.{least, nonzeros, hasZero}
 use Rattle.least_cost.proofs.Trial.{nonzeros-listed}
 use Rattle.prices.specs.Book.{Book}
@@ -103,14 +105,14 @@ module _ (book : Book) (x : Place) (levels : List ℤ) (next : List Float) (s : 
   pub entry-settled : (i p : ℕ) (v : Float) (choice : ℕ) → least + i / 2 ≡ r → i % 2 ≡ p
       → Settled (localAt book x r p) (nonzeroTail next s r) (zeroTail levels next s r) levels (record { cost = v; choice = choice }) → EntryIs book x levels next s least i v choice
   unfolding rowCost rowLevel
-  entry-settled i p v choice e f w = record { cost = rw (e, f) (w .cost); level = λ t. rw (e, f) (w .level t); below = w .below }
+  entry-settled i p v choice e f w = record { cost = rw (e, f) (w .cost); level = λ t. rw (e, f) (w .level t); below = w .below; none = w .none }
 
-  -- where nothing finite follows, the entry is infinite, whatever the choice
-  pub entry-dead : (i p choice : ℕ) → least + i / 2 ≡ r → i % 2 ≡ p → ((q : ℤ) → Mem q levels → T (cost (localAt book x r p q)))
-      → nonzeroTail next s r ≡ inf false → zeroTail levels next s r ≡ inf false → EntryIs book x levels next s least i (inf false) choice
+  -- where nothing finite follows, the entry is infinite
+  pub entry-dead : (i p : ℕ) → least + i / 2 ≡ r → i % 2 ≡ p → ((q : ℤ) → Mem q levels → T (cost (localAt book x r p q)))
+      → nonzeroTail next s r ≡ inf false → zeroTail levels next s r ≡ inf false → EntryIs book x levels next s least i (inf false) 255
   unfolding rowCost finite
-  entry-dead i p choice e f G a b =
-      record { cost = rw (e, f, a, b) (sym (dead-state (localAt book x r p) levels G)); level = λ t. absurd t; below = λ t. absurd t }
+  entry-dead i p e f G a b =
+      record { cost = rw (e, f, a, b) (sym (dead-state (localAt book x r p) levels G)); level = λ t. absurd t; below = λ t. absurd t; none = λ t. refl }
 
   -- the pair of a count, behind the entries of the counts before it
   pub row-more : (at i : ℕ) (row : List Float) (choices : List ℕ) (a b : Float) (m n : ℕ) → i + 1 < length row → at + i + 1 < length choices
@@ -189,10 +191,18 @@ module _ (book : Book) (x : Place) (levels : List ℤ) (next : List Float) (s : 
       (entry-settled book x levels next s least r (2 * (r - least) + 1) 1 b n second-count second-prev q)
 
   pub written-dead : ((p : ℕ) (q : ℤ) → p ≤ 1 → Mem q levels → T (cost (localAt book x r p q))) → nonzeroTail next s r ≡ inf false → zeroTail levels next s r ≡ inf false
-      → a ≡ inf false → b ≡ inf false → Written
-  written-dead G u v p q =
-      written (rw p (entry-dead book x levels next s least r (2 * (r - least)) 0 m first-count first-prev (λ z. G 0 z (lit≤ tt)) u v))
-      (rw q (entry-dead book x levels next s least r (2 * (r - least) + 1) 1 n second-count second-prev (λ z. G 1 z (lit≤ tt)) u v))
+      → a ≡ inf false → b ≡ inf false → m ≡ 255 → n ≡ 255 → Written
+  written-dead G u v p q i j =
+      written (rw (p, i) (entry-dead book x levels next s least r (2 * (r - least)) 0 first-count first-prev (λ z. G 0 z (lit≤ tt)) u v))
+      (rw (q, j) (entry-dead book x levels next s least r (2 * (r - least) + 1) 1 second-count second-prev (λ z. G 1 z (lit≤ tt)) u v))
+
+-- a choice that is packed is the one that was settled
+pub settled-kept : {g : ℤ → Float} {x z : Float} {levels : List ℤ} {r : Chosen} → length levels ≤ 5 → Settled g x z levels r → Settled g x z levels (record { cost = r .cost; choice = kept (r .choice) })
+settled-kept {g} {x} {z} {levels} {r} few w = subst⁻¹ (λ (c : ℕ). Settled g x z levels (record { cost = r .cost; choice = c })) (go (finite (r .cost)) refl) w
+  where
+    go : (t : Bool) → finite (r .cost) ≡ t → kept (r .choice) ≡ r .choice
+    go true e = kept-few (r .choice) (omega (arith, w .below (rw e tt), few))
+    go false e = kept-none (r .choice) (w .none (rw e tt))
 
 -- the local costs in a context are those of each count that has it
 pub located-at : (book : Book) (x : Place) (levels : List ℤ) (first second : List Float) (l : Locals) (n context : ℕ) → contextAt x n ≡ context

@@ -162,3 +162,7 @@ module _ (t : Tail) (q : Position) (qs : List Position) (Q : AllPriced t (q ∷ 
               let w = inside r p P f in
               I .entry (2 * (r - least) + p) (place r p P (w .0) (w .1)) .below (subst⁻¹ (λ (y : Float). T (finite y)) (value r p P (w .0) (w .1)) f);
         }
+
+    -- and 255 where the state's least cost is infinite
+    pub choices-none : (r p : ℕ) → p ≤ 1 → least ≤ r → r ≤ most → T (not (finite (best t (q ∷ qs) r p))) → getD choices (at + (2 * (r - least) + p)) 0 ≡ 255
+    choices-none r p P l h f = I .entry (2 * (r - least) + p) (place r p P l h) .none (subst⁻¹ (λ (y : Float). T (not (finite y))) (value r p P l h) f)

@@ -1,7 +1,7 @@
 -- A row: the costs of the states of one position, a pair for `prev` 0 and 1 for each count from the row's first count on.
 use Prim.Native.Nat.{ℕ, _+_, _-_, _*_, _/_, _%_, _≤_, _<_}
 use mathlib.Core.Path.{_≡_}
-use mathlib.Core.Bool.{false, cond, _&&_}
+use mathlib.Core.Bool.{false, not, cond, _&&_}
 use mathlib.Core.List.{List, List·Memᴰ}
 use lib.IntN.{ℤ, pos}
 use lib.ListN.{getD, length}
@@ -43,11 +43,12 @@ rowLevel book x levels next s least i =
     let r = least + i / 2 in
     stateLevel (localAt book x r (i % 2)) (nonzeroTail next s r) (zeroTail levels next s r) levels
 
--- v is the cost of the row's entry i, and where that is finite the choice is the index of its level
+-- v is the cost of the row's entry i, and where that is finite the choice is the index of its level, else 255
 pub record EntryIs (book : Book) (x : Place) (levels : List ℤ) (next : List Float) (s : Span) (least i : ℕ) (v : Float) (choice : ℕ) : Type 0 where
   pub cost : v ≡ rowCost book x levels next s least i
   pub level : T (finite v) → getD levels choice (pos 0) ≡ rowLevel book x levels next s least i
   pub below : T (finite v) → choice < length levels
+  pub none : T (not (finite v)) → choice ≡ 255
 
 -- the first n entries of a row are there: the costs, and from `at` on the choices
 pub record RowIs (book : Book) (x : Place) (levels : List ℤ) (next : List Float) (s : Span) (least at n : ℕ) (row : List Float) (choices : List ℕ) : Type 0 where

@@ -15,6 +15,7 @@ ghost use mathlib.Core.List.{List·Memᴰ};
 ghost use Rattle.candidates.specs.Candidates.{inArray};
 ghost use Rattle.costs.specs.Cost.{cost as isCost};
 ghost use Rattle.least_cost.specs.Search.{hasZero};
+ghost use Rattle.half_bytes.specs.Packed.{unpacked, kept};
 ghost use Rattle.prices.specs.Book.{Book, bookOf};
 ghost use Rattle.steps.specs.Place.{contextAt};
 ghost use Rattle.trellis_choice.specs.Locals.{listed, Usable, Located};
@@ -111,17 +112,18 @@ fn settle(
     }
 }
 
-pub fn write_pair(current: &mut [f32], choices: &mut [u8], i: usize, at: usize, pair: States)
-    requires { ⌜ (i + 1 < length (now current)) × (at + i + 1 < length (now choices)) ⌝ }
-    ensures { λ r. ⌜ (now (current .exit) ≡ set (set (now (current .entry)) i (pair .first .cost)) (i + 1) (pair .second .cost))
-        × (now (choices .exit) ≡ set (set (now (choices .entry)) (at + i) (pair .first .choice)) (at + i + 1) (pair .second .choice)) ⌝ }
+// Writes the two states of the k-th count of a row: their costs, and in one byte their choices, `at` being the row's first.
+pub fn write_pair(current: &mut [f32], choices: &mut [u8], k: usize, at: usize, pair: States)
+    requires { ⌜ (2 * k + 1 < length (now current)) × (2 * at + 2 * k + 1 < length (unpacked (now choices))) ⌝ }
+    ensures { λ r. ⌜ (now (current .exit) ≡ set (set (now (current .entry)) (2 * k) (pair .first .cost)) (2 * k + 1) (pair .second .cost))
+        × (unpacked (now (choices .exit)) ≡ set (set (unpacked (now (choices .entry))) (2 * at + 2 * k) (kept (pair .first .choice))) (2 * at + 2 * k + 1) (kept (pair .second .choice))) ⌝ }
 {
     let first = pair.first;
     let second = pair.second;
+    let i = 2 * k;
     current[i] = first.cost;
     current[i + 1] = second.cost;
-    choices[at + i] = first.choice;
-    choices[at + i + 1] = second.choice;
+    half_bytes::put_pair(choices, at + k, first.choice, second.choice);
 }
 
 fn infinite(x: f32, z: f32) -> bool
@@ -139,7 +141,7 @@ fn infinite(x: f32, z: f32) -> bool
 
 // Both states where nothing finite follows.
 pub fn unreachable() -> States
-    ensures { λ r. ⌜ (r .first .cost ≡ inf false) × (r .second .cost ≡ inf false) ⌝ }
+    ensures { λ r. ⌜ (r .first .cost ≡ inf false) × ((r .second .cost ≡ inf false) × ((r .first .choice ≡ 255) × (r .second .choice ≡ 255))) ⌝ }
 {
     let none = Chosen {
         cost: costs::infinity(),
@@ -169,24 +171,23 @@ fn row_state(
 )
     requires { ⌜ Usable (inArray count (now levels)) ⌝ }
     requires { ⌜ (span .base ≤ span .from) × (span .from ≤ span .upto → 2 * (span .upto - span .base) + 1 < length (now next)) ⌝ }
-    requires { ⌜ (least ≤ r) × ((2 * (r - least) + 1 < length (now current)) × (at + 2 * (r - least) + 1 < length (now choices))) ⌝ }
+    requires { ⌜ (least ≤ r) × ((2 * (r - least) + 1 < length (now current)) × (2 * at + 2 * (r - least) + 1 < length (unpacked (now choices)))) ⌝ }
     ensures { λ _. ⌜ length (now (current .exit)) ≡ length (now (current .entry)) ⌝ }
-    ensures { λ _. ⌜ Elsewhere (at + 2 * (r - least)) 2 (now (choices .entry)) (now (choices .exit)) ⌝ }
+    ensures { λ _. ⌜ Elsewhere (2 * at + 2 * (r - least)) 2 (unpacked (now (choices .entry))) (unpacked (now (choices .exit))) ⌝ }
     ensures { λ _. ⌜ ((book : Book) (x : Place) → Ready book x (inArray count (now (levels .entry))) (now (next .entry)) span (now (first .entry)) (now (second .entry)) locals zero r
-        → RowIs book x (listed (inArray count (now (levels .entry)))) (now (next .entry)) span least at (2 * (r - least)) (now (current .entry)) (now (choices .entry))
-        → RowIs book x (listed (inArray count (now (levels .entry)))) (now (next .entry)) span least at (2 * (r - least) + 2) (now (current .exit)) (now (choices .exit))) ⌝ }
+        → RowIs book x (listed (inArray count (now (levels .entry)))) (now (next .entry)) span least (2 * at) (2 * (r - least)) (now (current .entry)) (unpacked (now (choices .entry)))
+        → RowIs book x (listed (inArray count (now (levels .entry)))) (now (next .entry)) span least (2 * at) (2 * (r - least) + 2) (now (current .exit)) (unpacked (now (choices .exit)))) ⌝ }
 {
     let x = nonzero_tail(next, span, r);
     let z = zero_tail(next, span, r, zero);
-    let i = 2 * (r - least);
     if infinite(x, z) {
-        write_pair(current, choices, i, at, unreachable());
+        write_pair(current, choices, r - least, at, unreachable());
         return;
     }
     write_pair(
         current,
         choices,
-        i,
+        r - least,
         at,
         settle(levels, count, first, second, locals, zero, x, z),
     );
@@ -225,12 +226,12 @@ fn fill_run(
     requires { ⌜ Usable (inArray count (now levels)) ⌝ }
     requires { ⌜ (span .base ≤ span .from) × (span .from ≤ span .upto → 2 * (span .upto - span .base) + 1 < length (now next)) ⌝ }
     requires { ⌜ (least ≤ from) × ((from ≤ upto) × (upto ≤ 131072)) ⌝ }
-    requires { ⌜ (2 * (upto - least) + 1 < length (now current)) × (at + 2 * (upto - least) + 1 < length (now choices)) ⌝ }
+    requires { ⌜ (2 * (upto - least) + 1 < length (now current)) × (2 * at + 2 * (upto - least) + 1 < length (unpacked (now choices))) ⌝ }
     ensures { λ _. ⌜ length (now (current .exit)) ≡ length (now (current .entry)) ⌝ }
-    ensures { λ _. ⌜ Elsewhere (at + 2 * (from - least)) (2 * (upto + 1 - from)) (now (choices .entry)) (now (choices .exit)) ⌝ }
+    ensures { λ _. ⌜ Elsewhere (2 * at + 2 * (from - least)) (2 * (upto + 1 - from)) (unpacked (now (choices .entry))) (unpacked (now (choices .exit))) ⌝ }
     ensures { λ _. ⌜ ((book : Book) (x : Place) → ((r : ℕ) → from ≤ r → r ≤ upto → Ready book x (inArray count (now (levels .entry))) (now (next .entry)) span (now (first .entry)) (now (second .entry)) locals zero r)
-        → RowIs book x (listed (inArray count (now (levels .entry)))) (now (next .entry)) span least at (2 * (from - least)) (now (current .entry)) (now (choices .entry))
-        → RowIs book x (listed (inArray count (now (levels .entry)))) (now (next .entry)) span least at (2 * (upto + 1 - least)) (now (current .exit)) (now (choices .exit))) ⌝ }
+        → RowIs book x (listed (inArray count (now (levels .entry)))) (now (next .entry)) span least (2 * at) (2 * (from - least)) (now (current .entry)) (unpacked (now (choices .entry)))
+        → RowIs book x (listed (inArray count (now (levels .entry)))) (now (next .entry)) span least (2 * at) (2 * (upto + 1 - least)) (now (current .exit)) (unpacked (now (choices .exit)))) ⌝ }
 {
     let mut r = from;
     while r <= upto {
@@ -253,7 +254,7 @@ fn fill_run(
     }
 }
 
-// The states of the counts from `least` to `most`: their costs from the front of `current`, their choices from `at` on. Counts that
+// The states of the counts from `least` to `most`: their costs from the front of `current`, their choices from byte `at` on. Counts that
 // share a context share their local costs, which are worked out from the first of them that something finite follows.
 pub fn fill_row(
     clusters: u32,
@@ -273,10 +274,10 @@ pub fn fill_row(
     most: usize,
 )
     requires { ⌜ Workable (bookOf clusters (now map) (now configs) (now symbols) (now ready)) place (inArray count (now levels)) (now next) span most ⌝ }
-    requires { ⌜ (least ≤ most) × ((2 * (most - least) + 1 < length (now current)) × (at + 2 * (most - least) + 1 < length (now choices))) ⌝ }
+    requires { ⌜ (least ≤ most) × ((2 * (most - least) + 1 < length (now current)) × (2 * at + 2 * (most - least) + 1 < length (unpacked (now choices)))) ⌝ }
     ensures { λ s. ⌜ length (now (current .exit)) ≡ length (now (current .entry)) ⌝ }
-    ensures { λ s. ⌜ Elsewhere at (2 * (most + 1 - least)) (now (choices .entry)) (now (choices .exit)) ⌝ }
-    ensures { λ s. ⌜ RowIs (bookOf clusters (now (map .entry)) (now (configs .entry)) (now (symbols .entry)) (now (ready .entry))) place (listed (inArray count (now (levels .entry)))) (now (next .entry)) span least at (2 * (most + 1 - least)) (now (current .exit)) (now (choices .exit)) ⌝ }
+    ensures { λ s. ⌜ Elsewhere (2 * at) (2 * (most + 1 - least)) (unpacked (now (choices .entry))) (unpacked (now (choices .exit))) ⌝ }
+    ensures { λ s. ⌜ RowIs (bookOf clusters (now (map .entry)) (now (configs .entry)) (now (symbols .entry)) (now (ready .entry))) place (listed (inArray count (now (levels .entry)))) (now (next .entry)) span least (2 * at) (2 * (most + 1 - least)) (now (current .exit)) (unpacked (now (choices .exit))) ⌝ }
 {
     let mut distortion = [0.0f32; 5];
     let mut first = [0.0f32; 5];
@@ -288,7 +289,7 @@ pub fn fill_row(
         let x = nonzero_tail(next, span, r);
         let z = zero_tail(next, span, r, zero);
         if infinite(x, z) {
-            write_pair(current, choices, 2 * (r - least), at, unreachable());
+            write_pair(current, choices, r - least, at, unreachable());
             r += 1;
             continue;
         }

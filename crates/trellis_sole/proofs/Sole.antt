@@ -29,7 +29,7 @@ use Rattle.trellis_row.specs.Row.{tailAt, nonzeroTail, zeroTail, Workable}
 use Rattle.trellis_row.specs.declared.row.Span.{Span}
 use Rattle.trellis_row.specs.declared.row.States.{States}
 use Rattle.trellis_row.proofs.Rows.{not-below, nonzero-tail-cost, zero-tail-cost}
-use Rattle.trellis_sole.specs.Sole.{soleTail, soleStates, tokenIn, TokenIs, SoleReady}
+use Rattle.trellis_sole.specs.Sole.{soleTail, soleChosen, soleStates, tokenIn, TokenIs, SoleReady}
 
 -- the list of one candidate
 one-of : (levels : List ℤ) → length levels ≡ 5 → take 1 levels ≡ getD levels 0 (pos 0) ∷ []
@@ -93,14 +93,44 @@ module _ (g : ℤ → Float) (q : ℤ) (x z : Float) (G : T (cost (g q))) (X : T
       go true e h = zero-level e
       go false e h = nonzero-level e h
 
-  pub settled-sole : Settled g x z (q ∷ []) (record { cost = add binary32 (g q) (cond (eqb (nz q) 0) z x); choice = 0 })
-  settled-sole = record { cost = sym sole-cost; level = λ f. sym (sole-level f); below = λ f. lit< tt }
+  sole-sound : T (cost (add binary32 (g q) (cond (eqb (nz q) 0) z x)))
+  sole-sound = add-cost binary32 (g q) (cond (eqb (nz q) 0) z x) G (go (eqb (nz q) 0))
+    where
+      go : (b : Bool) → T (cost (cond b z x))
+      go true = Z
+      go false = X
 
-  -- where nothing finite follows, the state is infinite, whatever the choice
-  pub settled-dead : (choice : ℕ) → cond (eqb (nz q) 0) z x ≡ inf false → Settled g x z (q ∷ []) (record { cost = inf false; choice = choice })
+  pub settled-sole : Settled g x z (q ∷ []) (soleChosen (add binary32 (g q) (cond (eqb (nz q) 0) z x)))
+  unfolding soleChosen
+  settled-sole = go (lt sum (inf false)) refl
+    where
+      sum : Float
+      sum = add binary32 (g q) (cond (eqb (nz q) 0) z x)
+
+      finite-is : lt sum (inf false) ≡ finite sum
+      finite-is = lt-inf sum sole-sound
+
+      go : (b : Bool) → lt sum (inf false) ≡ b → Settled g x z (q ∷ []) (record { cost = sum; choice = cond b 0 255 })
+      go true e =
+          record {
+            cost = sym sole-cost;
+            level = λ f. sym (sole-level f);
+            below = λ f. lit< tt;
+            none = λ f. absurd (subst (λ (b : Bool). T (not b)) (sym finite-is ∙ e) f);
+          }
+      go false e =
+          record {
+            cost = sym sole-cost;
+            level = λ f. absurd (subst T (sym finite-is ∙ e) f);
+            below = λ f. absurd (subst T (sym finite-is ∙ e) f);
+            none = λ f. refl;
+          }
+
+  -- where nothing finite follows, the state is infinite
+  pub settled-dead : cond (eqb (nz q) 0) z x ≡ inf false → Settled g x z (q ∷ []) (record { cost = inf false; choice = 255 })
   unfolding finite
-  settled-dead choice e =
-      record { cost = sym (sole-cost ∙ ap (add binary32 (g q)) e ∙ add-inf binary32 (g q) G); level = λ f. absurd f; below = λ f. absurd f }
+  settled-dead e =
+      record { cost = sym (sole-cost ∙ ap (add binary32 (g q)) e ∙ add-inf binary32 (g q) G); level = λ f. absurd f; below = λ f. absurd f; none = λ f. refl }
 
 -- what follows, of the two
 pub sole-tail : (q : ℤ) (next : List Float) (s : Span) (r : ℕ) → soleTail q next s r ≡ cond (eqb (nz q) 0) (zeroTail (q ∷ []) next s r) (nonzeroTail next s r)
@@ -130,15 +160,16 @@ module _ {book : Book} {x : Place} {next : List Float} {s : Span} {q : ℤ} {dis
     tail-is : tail ≡ cond (eqb (nz q) 0) (zeroTail (q ∷ []) next s r) (nonzeroTail next s r)
     tail-is = e ∙ sole-tail q next s r
 
-    pub sole-state : {v a : Float} {m : ℕ} → v ≡ tokenIn book x (contextAt x r) p q → (a ≡ add binary32 (add binary32 distortion v) tail) × (m ≡ 0)
+    pub sole-state : {v a : Float} {m : ℕ} → v ≡ tokenIn book x (contextAt x r) p q → (a ≡ add binary32 (add binary32 distortion v) tail) × (m ≡ cond (lt (add binary32 (add binary32 distortion v) tail) (inf false)) 0 255)
         → Settled (localAt book x r p) (nonzeroTail next s r) (zeroTail (q ∷ []) next s r) (q ∷ []) (record { cost = a; choice = m })
+    unfolding soleChosen
     sole-state d f =
         rw (f .0, f .1, sum-is book x r p q (w .local p P) (w .distortion-is) d, tail-is)
         (settled-sole (localAt book x r p) q _ _ (w .local p P) (w .nonzero-follows) (w .zero-follows))
 
-    pub sole-dead : {v : Float} (choice : ℕ) → tail ≡ inf false → v ≡ inf false
+    pub sole-dead : {v : Float} {choice : ℕ} → tail ≡ inf false → v ≡ inf false → choice ≡ 255
         → Settled (localAt book x r p) (nonzeroTail next s r) (zeroTail (q ∷ []) next s r) (q ∷ []) (record { cost = v; choice = choice })
-    sole-dead choice f g = rw g (settled-dead (localAt book x r p) q _ _ (w .local p P) (w .nonzero-follows) (w .zero-follows) choice (sym tail-is ∙ f))
+    sole-dead f g h = rw (g, h) (settled-dead (localAt book x r p) q _ _ (w .local p P) (w .nonzero-follows) (w .zero-follows) (sym tail-is ∙ f))
 
   -- what follows is a cost
   pub tail-infinite : {tail y : Float} → tail ≡ soleTail q next s r → y ≡ inf false → lt tail y ≡ false → tail ≡ inf false
@@ -149,12 +180,12 @@ module _ {book : Book} {x : Place} {next : List Float} {s : Span} {q : ℤ} {dis
       go false = w .nonzero-follows
 
 -- the states as written
-pub states-first : {t : States} (d : Float) (token : Pair) (tail : Float) → t ≡ soleStates d token tail → (t .first .cost ≡ add binary32 (add binary32 d (token .first)) tail) × (t .first .choice ≡ 0)
-unfolding soleStates
+pub states-first : {t : States} (d : Float) (token : Pair) (tail : Float) → t ≡ soleStates d token tail → (t .first .cost ≡ add binary32 (add binary32 d (token .first)) tail) × (t .first .choice ≡ cond (lt (add binary32 (add binary32 d (token .first)) tail) (inf false)) 0 255)
+unfolding soleStates soleChosen
 states-first d token tail e = (ap (λ (t : States). t .first .cost) e, ap (λ (t : States). t .first .choice) e)
 
-pub states-second : {t : States} (d : Float) (token : Pair) (tail : Float) → t ≡ soleStates d token tail → (t .second .cost ≡ add binary32 (add binary32 d (token .second)) tail) × (t .second .choice ≡ 0)
-unfolding soleStates
+pub states-second : {t : States} (d : Float) (token : Pair) (tail : Float) → t ≡ soleStates d token tail → (t .second .cost ≡ add binary32 (add binary32 d (token .second)) tail) × (t .second .choice ≡ cond (lt (add binary32 (add binary32 d (token .second)) tail) (inf false)) 0 255)
+unfolding soleStates soleChosen
 states-second d token tail e = (ap (λ (t : States). t .second .cost) e, ap (λ (t : States). t .second .choice) e)
 
 -- ---- the row

@@ -5,13 +5,14 @@ use mathlib.Core.Bool.{cond, false}
 use mathlib.Core.List.{List, _∷_, []}
 use lib.Dec.{T, eqb}
 use lib.IntN.{ℤ, pos}
-use lib.Ieee.{Float, fin, add, binary32}
+use lib.Ieee.{Float, inf, fin, lt, add, binary32}
 use Rattle.costs.specs.Cost.{cost}
 use Rattle.least_cost.specs.Position.{nz}
 use Rattle.prices.specs.Book.{Book}
 use Rattle.prices.specs.declared.Pair.{Pair}
 use Rattle.steps.specs.Place.{distortionAt, contextAt, ratedIn, localAt}
 use Rattle.steps.specs.declared.Place.{Place}
+use Rattle.trellis_choice.specs.declared.chosen.Chosen.{Chosen}
 use Rattle.trellis_row.specs.Row.{tailAt, nonzeroTail, zeroTail}
 use Rattle.trellis_row.specs.declared.row.Span.{Span}
 use Rattle.trellis_row.specs.declared.row.States.{States}
@@ -20,12 +21,15 @@ use Rattle.trellis_row.specs.declared.row.States.{States}
 unfoldable pub soleTail : ℤ → List Float → Span → ℕ → Float
 soleTail q next s r = cond (eqb (nz q) 0) (tailAt next s r 0) (nonzeroTail next s r)
 
--- the two states of a count: the level is the first of the list
+-- a state of the sole level, the first of the list
+unfoldable pub soleChosen : Float → Chosen
+soleChosen v = record { cost = v; choice = cond (lt v (inf false)) 0 255 }
+
 unfoldable pub soleStates : Float → Pair → Float → States
 soleStates distortion token tail =
     record {
-      first = record { cost = add binary32 (add binary32 distortion (token .first)) tail; choice = 0 };
-      second = record { cost = add binary32 (add binary32 distortion (token .second)) tail; choice = 0 };
+      first = soleChosen (add binary32 (add binary32 distortion (token .first)) tail);
+      second = soleChosen (add binary32 (add binary32 distortion (token .second)) tail);
     }
 
 -- the rated prices of q's token in a context, 0.0 where there is no token

@@ -12,11 +12,12 @@ ghost use lib.Dec.{T};
 ghost use lib.ListN.{length};
 ghost use Rattle.bias.specs.Level.{isLevel};
 ghost use Rattle.candidates.specs.Candidates.{inArray};
+ghost use Rattle.half_bytes.specs.Packed.{unpacked};
 ghost use Rattle.prices.specs.Book.{Book, bookOf};
 ghost use Rattle.prices.specs.Checks.{bookRefusal};
 ghost use Rattle.trellis_choice.specs.Locals.{listed};
 ghost use Rattle.trellis_row.specs.Row.{RowIs, Elsewhere, Workable};
-ghost use Rattle.trellis_sole.specs.Sole.{soleTail, soleStates, TokenIs, SoleReady};
+ghost use Rattle.trellis_sole.specs.Sole.{soleTail, soleChosen, soleStates, TokenIs, SoleReady};
 
 // What follows the level where r remain.
 fn tail_of(next: &[f32], span: Span, r: usize, level: i32) -> f32
@@ -29,19 +30,23 @@ fn tail_of(next: &[f32], span: Span, r: usize, level: i32) -> f32
     row::nonzero_tail(next, span, r)
 }
 
+// A state of the sole level: its index where the cost is finite, else 255.
+fn chosen(cost: f32) -> Chosen
+    ensures { λ r. ⌜ r ≡ soleChosen cost ⌝ }
+{
+    if cost < costs::infinity() {
+        return Chosen { cost, choice: 0 };
+    }
+    Chosen { cost, choice: 255 }
+}
+
 // The two states of a count: distortion and token first, as in every sum of a local cost, then what follows.
 fn states_of(distortion: f32, token: Pair, tail: f32) -> States
     ensures { λ r. ⌜ r ≡ soleStates distortion token tail ⌝ }
 {
     States {
-        first: Chosen {
-            cost: distortion + token.first + tail,
-            choice: 0,
-        },
-        second: Chosen {
-            cost: distortion + token.second + tail,
-            choice: 0,
-        },
+        first: chosen(distortion + token.first + tail),
+        second: chosen(distortion + token.second + tail),
     }
 }
 
@@ -84,21 +89,26 @@ fn row_state(
     r: usize,
 )
     requires { ⌜ (span .base ≤ span .from) × (span .from ≤ span .upto → 2 * (span .upto - span .base) + 1 < length (now next)) ⌝ }
-    requires { ⌜ (least ≤ r) × ((2 * (r - least) + 1 < length (now current)) × (at + 2 * (r - least) + 1 < length (now choices))) ⌝ }
+    requires { ⌜ (least ≤ r) × ((2 * (r - least) + 1 < length (now current)) × (2 * at + 2 * (r - least) + 1 < length (unpacked (now choices)))) ⌝ }
     requires { ⌜ T (isLevel level) ⌝ }
     ensures { λ _. ⌜ length (now (current .exit)) ≡ length (now (current .entry)) ⌝ }
-    ensures { λ _. ⌜ Elsewhere (at + 2 * (r - least)) 2 (now (choices .entry)) (now (choices .exit)) ⌝ }
+    ensures { λ _. ⌜ Elsewhere (2 * at + 2 * (r - least)) 2 (unpacked (now (choices .entry))) (unpacked (now (choices .exit))) ⌝ }
     ensures { λ _. ⌜ ((book : Book) (x : Place) → SoleReady book x (now (next .entry)) span level distortion token r
-        → RowIs book x (level ∷ []) (now (next .entry)) span least at (2 * (r - least)) (now (current .entry)) (now (choices .entry))
-        → RowIs book x (level ∷ []) (now (next .entry)) span least at (2 * (r - least) + 2) (now (current .exit)) (now (choices .exit))) ⌝ }
+        → RowIs book x (level ∷ []) (now (next .entry)) span least (2 * at) (2 * (r - least)) (now (current .entry)) (unpacked (now (choices .entry)))
+        → RowIs book x (level ∷ []) (now (next .entry)) span least (2 * at) (2 * (r - least) + 2) (now (current .exit)) (unpacked (now (choices .exit)))) ⌝ }
 {
     let tail = tail_of(next, span, r, level);
-    let i = 2 * (r - least);
     if tail < costs::infinity() {
-        row::write_pair(current, choices, i, at, states_of(distortion, token, tail));
+        row::write_pair(
+            current,
+            choices,
+            r - least,
+            at,
+            states_of(distortion, token, tail),
+        );
         return;
     }
-    row::write_pair(current, choices, i, at, row::unreachable());
+    row::write_pair(current, choices, r - least, at, row::unreachable());
 }
 
 // The states of the counts from `from` to `upto`, which share the token's prices.
@@ -117,13 +127,13 @@ fn fill_run(
 )
     requires { ⌜ (span .base ≤ span .from) × (span .from ≤ span .upto → 2 * (span .upto - span .base) + 1 < length (now next)) ⌝ }
     requires { ⌜ (least ≤ from) × ((from ≤ upto) × (upto ≤ 131072)) ⌝ }
-    requires { ⌜ (2 * (upto - least) + 1 < length (now current)) × (at + 2 * (upto - least) + 1 < length (now choices)) ⌝ }
+    requires { ⌜ (2 * (upto - least) + 1 < length (now current)) × (2 * at + 2 * (upto - least) + 1 < length (unpacked (now choices))) ⌝ }
     requires { ⌜ T (isLevel level) ⌝ }
     ensures { λ _. ⌜ length (now (current .exit)) ≡ length (now (current .entry)) ⌝ }
-    ensures { λ _. ⌜ Elsewhere (at + 2 * (from - least)) (2 * (upto + 1 - from)) (now (choices .entry)) (now (choices .exit)) ⌝ }
+    ensures { λ _. ⌜ Elsewhere (2 * at + 2 * (from - least)) (2 * (upto + 1 - from)) (unpacked (now (choices .entry))) (unpacked (now (choices .exit))) ⌝ }
     ensures { λ _. ⌜ ((book : Book) (x : Place) → ((r : ℕ) → from ≤ r → r ≤ upto → SoleReady book x (now (next .entry)) span level distortion token r)
-        → RowIs book x (level ∷ []) (now (next .entry)) span least at (2 * (from - least)) (now (current .entry)) (now (choices .entry))
-        → RowIs book x (level ∷ []) (now (next .entry)) span least at (2 * (upto + 1 - least)) (now (current .exit)) (now (choices .exit))) ⌝ }
+        → RowIs book x (level ∷ []) (now (next .entry)) span least (2 * at) (2 * (from - least)) (now (current .entry)) (unpacked (now (choices .entry)))
+        → RowIs book x (level ∷ []) (now (next .entry)) span least (2 * at) (2 * (upto + 1 - least)) (now (current .exit)) (unpacked (now (choices .exit)))) ⌝ }
 {
     let mut r = from;
     while r <= upto {
@@ -163,10 +173,10 @@ fn fill_sole(
 )
     requires { ⌜ Workable (bookOf clusters (now map) (now configs) (now symbols) (now ready)) place (inArray count (now levels)) (now next) span most ⌝ }
     requires { ⌜ count ≡ 1 ⌝ }
-    requires { ⌜ (least ≤ most) × ((2 * (most - least) + 1 < length (now current)) × (at + 2 * (most - least) + 1 < length (now choices))) ⌝ }
+    requires { ⌜ (least ≤ most) × ((2 * (most - least) + 1 < length (now current)) × (2 * at + 2 * (most - least) + 1 < length (unpacked (now choices)))) ⌝ }
     ensures { λ s. ⌜ length (now (current .exit)) ≡ length (now (current .entry)) ⌝ }
-    ensures { λ s. ⌜ Elsewhere at (2 * (most + 1 - least)) (now (choices .entry)) (now (choices .exit)) ⌝ }
-    ensures { λ s. ⌜ RowIs (bookOf clusters (now (map .entry)) (now (configs .entry)) (now (symbols .entry)) (now (ready .entry))) place (listed (inArray count (now (levels .entry)))) (now (next .entry)) span least at (2 * (most + 1 - least)) (now (current .exit)) (now (choices .exit)) ⌝ }
+    ensures { λ s. ⌜ Elsewhere (2 * at) (2 * (most + 1 - least)) (unpacked (now (choices .entry))) (unpacked (now (choices .exit))) ⌝ }
+    ensures { λ s. ⌜ RowIs (bookOf clusters (now (map .entry)) (now (configs .entry)) (now (symbols .entry)) (now (ready .entry))) place (listed (inArray count (now (levels .entry)))) (now (next .entry)) span least (2 * at) (2 * (most + 1 - least)) (now (current .exit)) (unpacked (now (choices .exit))) ⌝ }
 {
     let level = levels[0];
     let distortion = place.distortion(level);
@@ -201,7 +211,7 @@ fn fill_sole(
     }
 }
 
-// The states of the counts from `least` to `most`: their costs from the front of `current`, their choices from `at` on.
+// The states of the counts from `least` to `most`: their costs from the front of `current`, their choices from byte `at` on.
 pub fn fill_row(
     clusters: u32,
     map: &[u8],
@@ -220,10 +230,10 @@ pub fn fill_row(
     most: usize,
 )
     requires { ⌜ Workable (bookOf clusters (now map) (now configs) (now symbols) (now ready)) place (inArray count (now levels)) (now next) span most ⌝ }
-    requires { ⌜ (least ≤ most) × ((2 * (most - least) + 1 < length (now current)) × (at + 2 * (most - least) + 1 < length (now choices))) ⌝ }
+    requires { ⌜ (least ≤ most) × ((2 * (most - least) + 1 < length (now current)) × (2 * at + 2 * (most - least) + 1 < length (unpacked (now choices)))) ⌝ }
     ensures { λ s. ⌜ length (now (current .exit)) ≡ length (now (current .entry)) ⌝ }
-    ensures { λ s. ⌜ Elsewhere at (2 * (most + 1 - least)) (now (choices .entry)) (now (choices .exit)) ⌝ }
-    ensures { λ s. ⌜ RowIs (bookOf clusters (now (map .entry)) (now (configs .entry)) (now (symbols .entry)) (now (ready .entry))) place (listed (inArray count (now (levels .entry)))) (now (next .entry)) span least at (2 * (most + 1 - least)) (now (current .exit)) (now (choices .exit)) ⌝ }
+    ensures { λ s. ⌜ Elsewhere (2 * at) (2 * (most + 1 - least)) (unpacked (now (choices .entry))) (unpacked (now (choices .exit))) ⌝ }
+    ensures { λ s. ⌜ RowIs (bookOf clusters (now (map .entry)) (now (configs .entry)) (now (symbols .entry)) (now (ready .entry))) place (listed (inArray count (now (levels .entry)))) (now (next .entry)) span least (2 * at) (2 * (most + 1 - least)) (now (current .exit)) (unpacked (now (choices .exit))) ⌝ }
 {
     if count == 1 {
         fill_sole(

@@ -1,3 +1,4 @@
+pub mod Picks
 pub mod Steps
 pub mod Turns
 pub mod Totals

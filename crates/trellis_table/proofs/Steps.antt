@@ -1,24 +1,28 @@
 -- One position: from the row after it to its own. Assumes nothing.
-use mathlib.Core.Path.{_≡_, sym, ap, _∙_, subst, subst⁻¹}
-use mathlib.Core.List.{List, _∷_, List·Memᴰ as Mem}
+use mathlib.Core.Path.{_≡_, refl, sym, ap, _∙_, subst, subst⁻¹}
+use mathlib.Core.Bool.{Bool, true, false, cond}
+use mathlib.Core.List.{List, [], _∷_, List·Memᴰ as Mem, List·Memᴰ·eq-of-singleton as only}
 use Prim.Native.Nat.{ℕ, zero, suc, _+_, _-_, _*_, _≤_, _<_, max, min}
 use native.Mathlib.Omega.{arith}
-use native.Mathlib.Nat.{le-of-eq, mul-suc, mul-le-mul, mul-le-mul-left, le-trans, le-refl, max-le, min-le-right}
-use lib.IntN.{ℤ}
-use lib.Dec.{T}
+use native.Mathlib.Nat.{le-of-eq, mul-suc, mul-le-mul, mul-le-mul-left, le-trans, le-refl, max-le, le-min, min-le-left, min-le-right}
+use lib.IntN.{ℤ, pos, negsuc}
+use lib.Dec.{T, eqb, ltb}
+use borrow.Author.Tests.{eqb-false}
 use lib.ListN.{length, getD}
 use lib.Ieee.{Float, nan, binary32}
 use lib.Ieee.Scale.{finite}
-use Rattle.block.specs.Block.{Block, covered, inputAt, inputRemaining, candidatesAt}
+use Rattle.block.specs.Block.{Block, covered, inputAt, inputRemaining, ideal, candidatesAt}
 use Rattle.block.specs.Band.{positionAt, positionsFrom, tailOf, pastWindow, inputAfter}
-use Rattle.block.specs.Checks.{states}
+use Rattle.block.specs.Checks.{choiceBytes, states}
+use Rattle.half_bytes.specs.Packed.{unpacked}
+use Rattle.half_bytes.proofs.Laws.{unpacked-length}
 use Rattle.block.specs.Cost.{localCost}
-use Rattle.candidates.specs.Candidates.{inArray}
+use Rattle.candidates.specs.Candidates.{inArray, candidatesOf, keptOf, restoredOf}
 use Rattle.block_checks.specs.Passed.{Passed}
 use Rattle.costs.specs.Cost.{cost}
 use Rattle.costs.proofs.Bound.{capped-cost}
 use Rattle.least_cost.specs.Position.{Position, nz}
-use Rattle.least_cost.specs.Search.{best}
+use Rattle.least_cost.specs.Search.{best, pick}
 use Rattle.least_cost.proofs.Best.{AllPriced, best-costs}
 use Rattle.least_cost.proofs.Trial.{nz-le}
 use Rattle.least_cost.proofs.Range.{best-reach, best-near}
@@ -36,10 +40,12 @@ use Rattle.trellis_row.specs.Row.{nonzeroTail, RowIs, Elsewhere, Workable}
 use Rattle.trellis_row.specs.Table.{RowFor, ChoicesFor}
 use Rattle.trellis_row.specs.declared.row.Span.{Span}
 use Rattle.trellis_row.proofs.Rows.{nonzero-tail-cost}
-use Rattle.trellis_row.proofs.Table.{Common, row-for, choices-for}
+use Rattle.trellis_row.proofs.Table.{Common, row-for, choices-for, choices-none}
 use Rattle.search_checks.specs.Checked.{positions}
 use Rattle.search_checks.proofs.Checked.{inner, remaining-few, remaining-step, positions-cons}
-use Rattle.trellis_table.specs.Rows.{leastCount, Rowable, RowAt, Stepped}
+use Rattle.trellis_table.specs.Rows.{leastCount, riseAt, Rowable, RowAt, Stepped}
+use Rattle.trellis_table.proofs.Picks.{member, pick-among, pick-cheap, pick-within}
+use Rattle.weights.specs.declared.Window.{Window}
 use Rattle.trellis_table.specs.declared.position.Counts.{Counts}
 
 -- ---- on counts alone
@@ -49,8 +55,48 @@ sum-is p q = cc
 pub lowest-is : (hw : ℕ) {l past past' after after' : ℕ} → l ≡ leastCount hw past after → past ≡ past' → after ≡ after' → l ≡ leastCount hw past' after'
 lowest-is hw e p q = cc
 
-pub highest-is : (hw i : ℕ) {m past past' after after' w w' : ℕ} → m ≡ min (after + hw) (past + (w - 1 - i)) + 1 → past ≡ past' → after ≡ after' → w ≡ w' → m ≡ min (after' + hw) (past' + (w' - 1 - i)) + 1
-highest-is hw i e p q r = cc
+-- a row's last count: of the first position, and of any other
+abbrev pub lastOf : (hw i past after left upto rise : ℕ) → ℕ
+lastOf hw i past after left upto rise = cond (eqb i 0) (min (after + hw) (past + left) + 1) (upto + rise)
+
+pub last-is : (hw i left upto : ℕ) {m past past' after after' rise rise' : ℕ} → m ≡ lastOf hw i past after left upto rise → past ≡ past' → after ≡ after' → rise ≡ rise' → m ≡ lastOf hw i past' after' left upto rise'
+last-is hw i left upto e p q r = cc
+
+-- what may rise does
+pub rise-few : (restoring i : ℕ) (q : ℤ) → riseAt restoring i q ≤ 1
+unfolding riseAt
+rise-few restoring i q = go (ltb i restoring)
+  where
+    go : (t : Bool) → cond t 1 (nz q) ≤ 1
+    go true = le-refl 1
+    go false = nz-le q
+
+rise-level : (restoring i : ℕ) (q : ℤ) → nz q ≤ riseAt restoring i q
+unfolding riseAt
+rise-level restoring i q = go (ltb i restoring)
+  where
+    go : (t : Bool) → nz q ≤ cond t 1 (nz q)
+    go true = nz-le q
+    go false = le-refl (nz q)
+
+-- where a level stays or comes nearer to 0, a 0 stays
+kept-none : keptOf (pos 0) ≡ pos 0 ∷ []
+unfolding keptOf
+kept-none = refl
+
+kept-zero : (q z : ℤ) → Mem z (keptOf q) → nz z ≤ nz q
+unfolding nz
+kept-zero (pos zero) z m = le-of-eq (ap nz (only (subst (Mem z) kept-none m)))
+kept-zero (pos (suc n)) z m = nz-le z
+kept-zero (negsuc n) z m = nz-le z
+
+rises : (v : Window) (b : Block) (i : ℕ) (z : ℤ) → Mem z (candidatesAt v b i) → nz z ≤ riseAt (v .restoring) i (inputAt b (covered b + i))
+unfolding candidatesAt candidatesOf riseAt
+rises v b i z = go (ltb i (v .restoring))
+  where
+    go : (t : Bool) → Mem z (cond t (restoredOf (ideal b i) (inputAt b (covered b + i))) (keptOf (inputAt b (covered b + i)))) → nz z ≤ cond t 1 (nz (inputAt b (covered b + i)))
+    go true m = nz-le z
+    go false m = kept-zero (inputAt b (covered b + i)) z m
 
 pub from-is : (hw l : ℕ) {f after after' : ℕ} → f ≡ max (after - hw) l → after ≡ after' → f ≡ max (after' - hw) l
 from-is hw l e q = cc
@@ -61,20 +107,20 @@ upto-is hw m e q = cc
 pub room-of : (hw : ℕ) (l m long : ℕ) → m ≤ l + (2 * hw + 1) → states hw ≤ long → 2 * (m - l) + 1 < long
 room-of hw l m long h k = omega arith
 
-pub space-of : (hw : ℕ) (l m i long : ℕ) → m ≤ l + (2 * hw + 1) → states hw * i + states hw ≤ long → states hw * i + 2 * (m - l) + 1 < long
-space-of hw l m i long h k = omega arith
+pub space-of : (hw : ℕ) (l m i : ℕ) (choices : List ℕ) → m ≤ l + (2 * hw + 1) → choiceBytes hw * i + choiceBytes hw ≤ length choices → 2 * (choiceBytes hw * i) + 2 * (m - l) + 1 < length (unpacked choices)
+space-of hw l m i choices h k = omega (arith, h, k, unpacked-length choices)
 
-pub small-at : (hw i n : ℕ) → hw ≤ 12 → i < n → n ≤ 1024 → states hw * i < 18446744073709551616
+pub small-at : (hw i n : ℕ) → hw ≤ 12 → i < n → n ≤ 1024 → choiceBytes hw * i < 18446744073709551616
 small-at hw i n h k l =
-    let wide : states hw ≤ 52 = omega arith in
+    let wide : choiceBytes hw ≤ 26 = omega arith in
     let far : i ≤ 1024 = omega arith in
-    let most : states hw * i ≤ 52 * 1024 = mul-le-mul wide far in
+    let most : choiceBytes hw * i ≤ 26 * 1024 = mul-le-mul wide far in
     omega arith
 
-pub last-room : (hw i n long : ℕ) → 0 < i → i ≤ n → states hw * n ≤ long → states hw * (i - 1) + states hw ≤ long
+pub last-room : (hw i n long : ℕ) → 0 < i → i ≤ n → choiceBytes hw * n ≤ long → choiceBytes hw * (i - 1) + choiceBytes hw ≤ long
 last-room hw i n long p h k =
     let one : suc (i - 1) ≡ i = omega arith in
-    le-trans (le-of-eq (sym (mul-suc (states hw) (i - 1)))) (le-trans (mul-le-mul-left (states hw) (rw one h)) k)
+    le-trans (le-of-eq (sym (mul-suc (choiceBytes hw) (i - 1)))) (le-trans (mul-le-mul-left (choiceBytes hw) (rw one h)) k)
 
 row-width : (hw : ℕ) (l m : ℕ) → m ≤ l + (2 * hw + 1) → 2 * (m + 1 - l) ≤ states hw
 row-width hw l m h = omega arith
@@ -110,6 +156,40 @@ high-part hw past after r w i h l m =
     let one : suc (w - suc i) ≡ w - 1 - i + 1 = omega arith in
     let first : r ≤ past + (w - 1 - i) + 1 = omega arith in
     at-most (after + hw) (past + (w - 1 - i)) r (omega arith) first
+
+-- the last count of the first position's row, past + left being l, and of any other, u being what may be read of the next
+near-first : (a hw l : ℕ) → min (a + hw) l + 1 ≤ a + hw + 1
+near-first a hw l = omega (arith, min-le-left (a + hw) l)
+
+far-first : (x past w i : ℕ) → i < w → min x (past + (w - 1 - i)) + 1 ≤ past + (w - i)
+far-first x past w i h = omega (arith, min-le-right x (past + (w - 1 - i)))
+
+held-first : (a hw l n : ℕ) → a ≤ l → n ≤ 1 → a + n ≤ min (a + hw) l + 1
+held-first a hw l n h k = omega arith
+
+near-other : (u a hw r : ℕ) → u ≤ a + hw → r ≤ 1 → u + r ≤ a + hw + 1
+near-other u a hw r h k = omega arith
+
+far-other : (u m past w i r : ℕ) → u ≤ m → m ≤ past + (w - suc i) → r ≤ 1 → i < w → u + r ≤ past + (w - i)
+far-other u m past w i r h k l j = omega arith
+
+held-other : (u a n r : ℕ) → a ≤ u → n ≤ r → a + n ≤ u + r
+held-other u a n r h k = omega arith
+
+below-held : (a n m : ℕ) → a + n ≤ m → a ≤ m
+below-held a n m h = omega arith
+
+fits-in : (m past w i c : ℕ) → m ≤ past + (w - i) → i < w → past ≤ 64 * c - (c + w) → c + w ≤ 64 * c → m + (c + i) ≤ 64 * c
+fits-in m past w i c h k l j = omega arith
+
+narrow-in : (hw m past a : ℕ) → m ≤ a + hw + 1 → m ≤ max past (a - hw) + (2 * hw + 1)
+narrow-in hw m past a h = omega arith
+
+some-in : (hw m past a : ℕ) → past ≤ a → a ≤ m → max past (a - hw) ≤ m
+some-in hw m past a h k = omega arith
+
+read-in : (hw a m : ℕ) → a ≤ m → a ≤ min (a + hw) m
+read-in hw a m h = omega arith
 
 module _ {hw : ℕ} {book : Book} {b : Block} {p : Plan} (K : Rowable hw book b p) where
   P : Passed (p .window) b
@@ -184,6 +264,10 @@ module _ {hw : ℕ} {book : Book} {b : Block} {p : Plan} (K : Rowable hw book b 
           subst⁻¹ (λ (n : ℕ). r ≤ n) f (high-part hw _ _ r (p .window .length) i h (rw long at (reach .most)) (rw a at (near .most))),
         )
 
+    lowest : (c : Counts) → c .least ≡ leastCount hw (pastWindow (p .window) b) (inputRemaining b (covered b + suc i))
+        → (r q : ℕ) → q ≤ 1 → T (finite (best (tailOf (p .window) book b) (positionAt hw (p .window) book b i ∷ positions hw (p .window) book b (suc i)) r q)) → c .least ≤ r
+    lowest c e r q Q t = within-counts (record { least = c .least; most = min (inputRemaining b (covered b + suc i) + hw) (pastWindow (p .window) b + (p .window .length - 1 - i)) + 1 }) e refl r q Q t .0
+
     pub narrow : (c : Counts) → c .least ≡ leastCount hw (pastWindow (p .window) b) (inputRemaining b (covered b + suc i))
         → c .most ≡ min (inputRemaining b (covered b + suc i) + hw) (pastWindow (p .window) b + (p .window .length - 1 - i)) + 1 → c .most ≤ c .least + (2 * hw + 1)
     unfolding leastCount
@@ -193,7 +277,7 @@ module _ {hw : ℕ} {book : Book} {b : Block} {p : Plan} (K : Rowable hw book b 
     module _ (place : Place) (offer : Offer) (offered : List ℤ) (S : Offered (p .window) b i offer offered) (place-is : place ≡ placeOf b (p .log2) i) (U : Usable (inArray (offer .count) offered)) (next : List Float) (n c : Counts) (s : Span) (R : RowAt hw (p .window) book b (suc i) next n) (long : states hw ≤ length next)
         (sb : s .base ≡ n .least) (sf : s .from ≡ max (inputRemaining b (covered b + suc i) - hw) (n .least)) (su : s .upto ≡ min (inputRemaining b (covered b + suc i) + hw) (n .most))
         (cl : c .least ≡ leastCount hw (pastWindow (p .window) b) (inputRemaining b (covered b + suc i)))
-        (cm : c .most ≡ min (inputRemaining b (covered b + suc i) + hw) (pastWindow (p .window) b + (p .window .length - 1 - i)) + 1) where
+        (cm : c .most ≡ lastOf hw i (pastWindow (p .window) b) (inputRemaining b (covered b + suc i)) (p .window .length - 1 - i) (s .upto) (riseAt (p .window .restoring) i (offer .level))) where
       C : Common (positionAt hw (p .window) book b i) (n .least) (n .most) s
       C = common n s sb sf su
 
@@ -203,9 +287,85 @@ module _ {hw : ℕ} {book : Book} {b : Block} {p : Plan} (K : Rowable hw book b 
           (subst⁻¹ (λ (y : Float). T (cost y)) (R .stands .values r q (le-trans (C .row-lower) l) (le-trans u (C .row-upper)) Q)
           (best-costs (tailOf (p .window) book b) (positions hw (p .window) book b (suc i)) (priced (suc i) (p .window .length - suc i) (next-fits (p .window .length) i h)) .costs r q Q))
 
+      rise : ℕ
+      rise = riseAt (p .window .restoring) i (offer .level)
+
+      level-rises : nz (offer .level) ≤ riseAt (p .window .restoring) i (offer .level)
+      level-rises = rise-level (p .window .restoring) i (offer .level)
+
+      -- the next row's input count may be read
+      read-on : inputRemaining b (covered b + suc i) ≤ s .upto
+      read-on = rw su (read-in hw _ _ (R .holds))
+
+      upto-near : s .upto ≤ inputRemaining b (covered b + suc i) + hw
+      upto-near = rw su (min-le-left _ _)
+
+      upto-held : s .upto ≤ n .most
+      upto-held = rw su (min-le-right _ _)
+
+      counted : inputRemaining b (covered b + suc i) + nz (offer .level) ≡ inputRemaining b (covered b + i)
+      counted =
+          let here = remaining-step (K .checked) (covered b + i) (inner (covered b) (p .window .length) i h (P .window .fits)) in
+          let same : suc (covered b + i) ≡ covered b + suc i = omega arith in
+          let level = ap nz (S .level-is) in
+          omega (arith, rw same at here)
+
+      picked-inside : (r q : ℕ) → q ≤ 1 → T (finite (best (tailOf (p .window) book b) (positionAt hw (p .window) book b i ∷ positions hw (p .window) book b (suc i)) r q)) → r ≤ s .upto + riseAt (p .window .restoring) i (offer .level)
+      unfolding positionAt
+      picked-inside r q Q f =
+          let t = tailOf (p .window) book b in
+          let q0 = positionAt hw (p .window) book b i in
+          let qs = positions hw (p .window) book b (suc i) in
+          let all = priced-cons i h in
+          let z = pick t q0 qs r q in
+          let among = pick-among t q0 qs all r q Q f in
+          let high : r - nz z ≤ inputAfter b i + hw = pick-within t q0 qs all r q Q f in
+          let held = R .stands .inside (r - nz z) (nz z) (nz-le z) (pick-cheap t q0 qs all r q Q f) .1 in
+          let risen = rises (p .window) b i z (member t q0 qs all r q Q f) in
+          let same = ap (riseAt (p .window .restoring) i) (S .level-is) in
+          let a = after-same i in
+          let below : r - nz z ≤ s .upto = rw su (le-min (le-trans high (le-of-eq (ap (λ (m : ℕ). m + hw) a))) held) in
+          rw same (omega (arith, among, below, risen))
+
+      -- what is known of the last count
+      record Last : Type 0 where
+        pub first : i ≡ 0 → c .most ≡ min (inputRemaining b (covered b + suc i) + hw) (pastWindow (p .window) b + (p .window .length - 1 - i)) + 1
+        pub near : c .most ≤ inputRemaining b (covered b + suc i) + hw + 1
+        pub far : c .most ≤ pastWindow (p .window) b + (p .window .length - i)
+        pub some : inputRemaining b (covered b + suc i) ≤ c .most
+        pub held : inputRemaining b (covered b + i) ≤ c .most
+        pub inside : (r q : ℕ) → q ≤ 1 → T (finite (best (tailOf (p .window) book b) (positionAt hw (p .window) book b i ∷ positions hw (p .window) book b (suc i)) r q)) → r ≤ c .most
+
+      last : Last
+      last = go (eqb i 0) refl cm
+        where
+          go : (t : Bool) → eqb i 0 ≡ t → c .most ≡ cond t (min (inputRemaining b (covered b + suc i) + hw) (pastWindow (p .window) b + (p .window .length - 1 - i)) + 1) (s .upto + riseAt (p .window .restoring) i (offer .level)) → Last
+          go true t e =
+              let behind = past-after i h in
+              let input = held-first (inputRemaining b (covered b + suc i)) hw (pastWindow (p .window) b + (p .window .length - 1 - i)) (nz (offer .level)) (behind .1) (nz-le (offer .level)) in
+              record {
+                first = λ _. e;
+                near = rw e (near-first _ hw _);
+                far = rw e (far-first _ (pastWindow (p .window) b) (p .window .length) i h);
+                some = rw e (below-held _ _ _ input);
+                held = rw (e, ← counted) input;
+                inside = λ r q Q f. within-counts c cl e r q Q f .1;
+              }
+          go false t e =
+              let one = rise-few (p .window .restoring) i (offer .level) in
+              let input = held-other _ _ _ _ read-on level-rises in
+              record {
+                first = λ none. absurd (eqb-false i 0 t none);
+                near = rw e (near-other _ _ hw _ upto-near one);
+                far = rw e (far-other _ _ (pastWindow (p .window) b) (p .window .length) i _ upto-held (R .reach) one h);
+                some = rw e (below-held _ _ _ input);
+                held = rw (e, ← counted) input;
+                inside = λ r q Q f. rw e (picked-inside r q Q f);
+              }
+
       fits : c .most + (covered b + i) ≤ 64 * covered b
       unfolding pastLength
-      fits = room-left _ _ _ _ _ _ cm h (past-most (p .window) b) (P .window .fits)
+      fits = fits-in _ _ (p .window .length) i (covered b) (last .far) h (past-most (p .window) b) (P .window .fits)
 
       pub working : Workable book place (inArray (offer .count) offered) next s (c .most)
       unfolding placeOf
@@ -224,11 +384,12 @@ module _ {hw : ℕ} {book : Book} {b : Block} {p : Plan} (K : Rowable hw book b 
           }
 
       pub counts-narrow : c .most ≤ c .least + (2 * hw + 1)
-      counts-narrow = narrow c cl cm
+      unfolding leastCount
+      counts-narrow = rw cl (narrow-in hw _ _ _ (last .near))
 
       pub counts-some : c .least ≤ c .most
       unfolding leastCount
-      counts-some = let w = past-after i h in least-most hw _ _ _ _ _ cl cm (w .0) (w .1)
+      counts-some = rw cl (some-in hw _ _ _ (past-after i h .0) (last .some))
 
       local : (r pr : ℕ) (z : ℤ) → pr ≤ 1 → localAt book place r pr z ≡ positionAt hw (p .window) book b i .price r pr z
       unfolding positionAt
@@ -242,34 +403,35 @@ module _ {hw : ℕ} {book : Book} {b : Block} {p : Plan} (K : Rowable hw book b 
       unfolding positionAt
       listed-here = S .listed-is
 
-      pub stepped : (row row' : List Float) (choices choices' : List ℕ) (after' : ℕ) → length row' ≡ length row → Elsewhere (states hw * i) (2 * (c .most + 1 - c .least)) choices choices'
-          → RowIs book place (listed (inArray (offer .count) offered)) next s (c .least) (states hw * i) (2 * (c .most + 1 - c .least)) row' choices'
+      pub stepped : (row row' : List Float) (choices choices' : List ℕ) (after' : ℕ) → length row' ≡ length row → Elsewhere (2 * (choiceBytes hw * i)) (2 * (c .most + 1 - c .least)) (unpacked choices) (unpacked choices')
+          → RowIs book place (listed (inArray (offer .count) offered)) next s (c .least) (2 * (choiceBytes hw * i)) (2 * (c .most + 1 - c .least)) row' (unpacked choices')
           → after' ≡ inputRemaining b (covered b + suc i) + nz (offer .level) → Stepped hw (p .window) book b i row row' choices choices' (record { counts = c; after = after' })
       stepped row row' choices choices' after' size E I e =
-          let J = subst (λ (l : List ℤ). RowIs book place l next s (c .least) (states hw * i) (2 * (c .most + 1 - c .least)) row' choices') listed-here I in
+          let J = subst (λ (l : List ℤ). RowIs book place l next s (c .least) (2 * (choiceBytes hw * i)) (2 * (c .most + 1 - c .least)) row' (unpacked choices')) listed-here I in
           let Q = priced-cons i h in
           let dead : (r : ℕ) → T (cost (nonzeroTail next s r)) = λ r. nonzero-tail-cost working r in
-          let inside = within-counts c cl cm in
+          let inside : (r q : ℕ) → q ≤ 1 → T (finite (best (tailOf (p .window) book b) (positionAt hw (p .window) book b i ∷ positions hw (p .window) book b (suc i)) r q)) → (c .least ≤ r) × (r ≤ c .most) =
+          λ r q Q f. (lowest c cl r q Q f, last .inside r q Q f) in
           record {
             row-is =
                 record {
                   stands = subst⁻¹ (λ (l : List Position). RowFor (tailOf (p .window) book b) l row' (c .least) (c .most)) (positions-cons (K .checked) hw i h)
-                      (row-for (tailOf (p .window) book b) (positionAt hw (p .window) book b i) (positions hw (p .window) book b (suc i)) Q next (n .least) (n .most) s C (R .stands) book place local costs dead (c .least) (c .most) (states hw * i) row' choices' J inside);
+                      (row-for (tailOf (p .window) book b) (positionAt hw (p .window) book b i) (positions hw (p .window) book b (suc i)) Q next (n .least) (n .most) s C (R .stands) book place local costs dead (c .least) (c .most) (2 * (choiceBytes hw * i)) row' (unpacked choices') J inside);
                   narrow = counts-narrow;
+                  holds = last .held;
+                  reach = last .far;
                 };
             size = size;
             chosen = record {
-              stands = subst (λ (l : ℕ). ChoicesFor (tailOf (p .window) book b) (positionAt hw (p .window) book b i) (positions hw (p .window) book b (suc i)) choices' (states hw * i) l) cl
-                  (choices-for (tailOf (p .window) book b) (positionAt hw (p .window) book b i) (positions hw (p .window) book b (suc i)) Q next (n .least) (n .most) s C (R .stands) book place local costs dead (c .least) (c .most) (states hw * i) row' choices' J inside);
+              last = c .most;
+              inside = last .inside;
+              stands = subst (λ (l : ℕ). ChoicesFor (tailOf (p .window) book b) (positionAt hw (p .window) book b i) (positions hw (p .window) book b (suc i)) (unpacked choices') (2 * (choiceBytes hw * i)) l) cl
+                  (choices-for (tailOf (p .window) book b) (positionAt hw (p .window) book b i) (positions hw (p .window) book b (suc i)) Q next (n .least) (n .most) s C (R .stands) book place local costs dead (c .least) (c .most) (2 * (choiceBytes hw * i)) row' (unpacked choices') J inside);
+              none = λ r q P l h f.
+                  subst (λ (k : ℕ). getD (unpacked choices') (2 * (choiceBytes hw * i) + (2 * (r - k) + q)) 0 ≡ 255) cl
+                  (choices-none (tailOf (p .window) book b) (positionAt hw (p .window) book b i) (positions hw (p .window) book b (suc i)) Q next (n .least) (n .most) s C (R .stands) book place local costs dead (c .least) (c .most) (2 * (choiceBytes hw * i)) row' (unpacked choices') J inside r q P (rw cl l) h f);
             };
             elsewhere = wider E (row-width hw (c .least) (c .most) counts-narrow);
             after-is = e ∙ counted;
-            counts-are = record { least = cl; most = cm };
+            counts-are = record { least = cl; most = last .first };
           }
-        where
-          counted : inputRemaining b (covered b + suc i) + nz (offer .level) ≡ inputRemaining b (covered b + i)
-          counted =
-              let here = remaining-step (K .checked) (covered b + i) (inner (covered b) (p .window .length) i h (P .window .fits)) in
-              let same : suc (covered b + i) ≡ covered b + suc i = omega arith in
-              let level = ap nz (S .level-is) in
-              omega (arith, rw same at here)

@@ -30,12 +30,12 @@ use Rattle.trellis_table.proofs.Steps.{room-left, past-after, least-mos
 module _ {hw : ℕ} {book : Book} {b : Block} {p : Plan} (K : Rowable hw book b p) where
   pub counts-some : (c : Counts) → CountsAt hw (p .window) b 0 c → c .least ≤ c .most + 1
   unfolding Rows.leastCount
-  counts-some c w = let q = past-after K 0 (window-some (K .checked)) in le-trans (least-most hw _ _ _ _ _ (w .least) (w .most) (q .0) (q .1)) (omega arith)
+  counts-some c w = let q = past-after K 0 (window-some (K .checked)) in le-trans (least-most hw _ _ _ _ _ (w .least) (w .most refl) (q .0) (q .1)) (omega arith)
 
   pub count-few : (c : Counts) → CountsAt hw (p .window) b 0 c → (n : ℕ) → n ≤ c .most → n ≤ 65536
   unfolding pastLength
   count-few c w n h =
-      let fits = room-left _ _ _ _ _ _ (w .most) (window-some (K .checked)) (past-most (p .window) b) (K .checked .passed .window .fits) in
+      let fits = room-left _ _ _ _ _ _ (w .most refl) (window-some (K .checked)) (past-most (p .window) b) (K .checked .passed .window .fits) in
       omega (arith, K .checked .passed .most)
 
   -- one count's cost
@@ -64,7 +64,7 @@ sofar-start hw v book b c w some x e =
     let same : covered b + 0 + 1 ≡ covered b + 1 = omega arith in
     let after = ap (inputRemaining b) same in
     let first = w .least in
-    let last = w .most ∙ most-same hw (pastWindow v b) (inputRemaining b (covered b + 1)) (v .length) some in
+    let last = w .most refl ∙ most-same hw (pastWindow v b) (inputRemaining b (covered b + 1)) (v .length) some in
     let wide : c .most + 1 - c .least ≡ suc (c .most) - c .least = ap (λ (k : ℕ). k - c .least) (add-one (c .most)) in
     record { cost-left = cc; count-left = cc }
 

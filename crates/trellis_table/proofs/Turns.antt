@@ -13,7 +13,8 @@ use lib.Ieee.Scale.{finite}
 use borrow.Author.Tests.{eq-eqb, eqb-true, eqb-false}
 use Rattle.block.specs.Block.{Block, covered, inputRemaining}
 use Rattle.block.specs.Band.{positionAt, positionsFrom, tailOf, pastWindow}
-use Rattle.block.specs.Checks.{states}
+use Rattle.block.specs.Checks.{choiceBytes, states}
+use Rattle.half_bytes.specs.Packed.{unpacked}
 use Rattle.least_cost.specs.Position.{Position, Tail}
 use Rattle.least_cost.specs.Search.{best}
 use Rattle.prices.specs.Book.{Book}
@@ -61,6 +62,8 @@ rowed-start hw v book b past first second choices e w =
                   inside = λ r p P f. let same = end-inside (tailOf v book b) r p f ∙ sym e in (omega arith, omega arith);
                 });
             narrow = omega arith;
+            holds = le-of-eq (sym e);
+            reach = omega (arith, e);
           };
       chosen = record { each = λ j l h. absurd (omega arith) };
       after-is = e;
@@ -76,19 +79,22 @@ rowed-start hw v book b past first second choices e w =
 before-next : (s i j : ℕ) → i < j → s * i + s ≤ s * j
 before-next s i j h = le-trans (le-of-eq (sym (mul-suc s i))) (mul-le-mul-left s h)
 
-chosen-kept : {hw : ℕ} {v : Window} {book : Book} {b : Block} {i j : ℕ} {choices choices' : List ℕ} → i < j → Elsewhere (states hw * i) (states hw) choices choices' → ChosenAt hw v book b j choices → ChosenAt hw v book b j choices'
+chosen-kept : {hw : ℕ} {v : Window} {book : Book} {b : Block} {i j : ℕ} {choices choices' : List ℕ} → i < j → Elsewhere (2 * (choiceBytes hw * i)) (states hw) (unpacked choices) (unpacked choices') → ChosenAt hw v book b j choices → ChosenAt hw v book b j choices'
 chosen-kept {hw} {v} {book} {b} {i} {j} {choices} {choices'} h E w =
     record {
+      last = w .last;
+      inside = w .inside;
       stands = record {
         picks = λ r p P f. ap (λ (k : ℕ). getD (positionAt hw v book b j .candidates) k (pos 0)) (same (2 * (r - _) + p)) ∙ w .stands .picks r p P f;
         below = λ r p P f. subst⁻¹ (λ (k : ℕ). k < length (positionAt hw v book b j .candidates)) (same (2 * (r - _) + p)) (w .stands .below r p P f);
       };
+      none = λ r p P l m f. same (2 * (r - _) + p) ∙ w .none r p P l m f;
     }
   where
-    same : (n : ℕ) → getD choices' (states hw * j + n) 0 ≡ getD choices (states hw * j + n) 0
-    same n = E .behind (states hw * j + n) (omega (arith, before-next (states hw) i j h))
+    same : (n : ℕ) → getD (unpacked choices') (2 * (choiceBytes hw * j) + n) 0 ≡ getD (unpacked choices) (2 * (choiceBytes hw * j) + n) 0
+    same n = E .behind (2 * (choiceBytes hw * j) + n) (omega (arith, before-next (choiceBytes hw) i j h))
 
-pub chosen-more : {hw : ℕ} {v : Window} {book : Book} {b : Block} {i : ℕ} {choices choices' : List ℕ} → Elsewhere (states hw * i) (states hw) choices choices' → ChosenAt hw v book b i choices' → ChosenFrom hw v book b (suc i) choices → ChosenFrom hw v book b i choices'
+pub chosen-more : {hw : ℕ} {v : Window} {book : Book} {b : Block} {i : ℕ} {choices choices' : List ℕ} → Elsewhere (2 * (choiceBytes hw * i)) (states hw) (unpacked choices) (unpacked choices') → ChosenAt hw v book b i choices' → ChosenFrom hw v book b (suc i) choices → ChosenFrom hw v book b i choices'
 chosen-more {hw} {v} {book} {b} {i} {choices} {choices'} E here w = record { each = λ j l h. go j l h (eqb i j) refl }
   where
     go : (j : ℕ) → i ≤ j → j < v .length → (t : Bool) → eqb i j ≡ t → ChosenAt hw v book b j choices'

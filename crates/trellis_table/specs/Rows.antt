@@ -1,13 +1,19 @@
 -- The rows of the trellis: which counts the row of each position holds, and what the rows and choices stand for, for a band of half-width w and a window v.
 use Prim.Native.Nat.{ℕ, suc, _+_, _-_, _*_, _≤_, _<_, max, min}
 use mathlib.Core.Path.{_≡_}
-use mathlib.Core.Bool.{Bool, cond}
-use mathlib.Core.List.{List}
+use mathlib.Core.Bool.{Bool, cond, not}
+use mathlib.Core.List.{List, _∷_}
 use lib.ListN.{length, getD}
+use lib.Dec.{T, ltb}
+use lib.IntN.{ℤ}
 use lib.Ieee.{Float, nan, lt}
+use lib.Ieee.Scale.{finite}
 use Rattle.block.specs.Block.{Block, covered, inputRemaining}
 use Rattle.block.specs.Band.{positionAt, tailOf, pastWindow}
-use Rattle.block.specs.Checks.{states}
+use Rattle.block.specs.Checks.{choiceBytes, states}
+use Rattle.half_bytes.specs.Packed.{unpacked}
+use Rattle.least_cost.specs.Position.{nz}
+use Rattle.least_cost.specs.Search.{best}
 use Rattle.prices.specs.Book.{Book}
 use Rattle.search_checks.specs.Checked.{positions, Checked}
 use Rattle.steps.specs.declared.reading.Plan.{Plan}
@@ -27,26 +33,44 @@ pub record Rowable (w : ℕ) (book : Book) (b : Block) (p : Plan) : Type 0 where
 unfoldable pub leastCount : ℕ → ℕ → ℕ → ℕ
 leastCount w past after = max past (after - w)
 
--- a row and its counts stand for the positions from i on
+-- by how much a count may rise at position i, whose level is q: a 0 that can't be restored stays
+unfoldable pub riseAt : ℕ → ℕ → ℤ → ℕ
+riseAt restoring i q = cond (ltb i restoring) 1 (nz q)
+
+-- a row and its counts stand for the positions from i on; the input's count is one of them, and none is above what can remain there
 pub record RowAt (w : ℕ) (v : Window) (book : Book) (b : Block) (i : ℕ) (row : List Float) (c : Counts) : Type 0 where
   pub stands : RowFor (tailOf v book b) (positions w v book b i) row (c .least) (c .most)
   pub narrow : c .most ≤ c .least + (2 * w + 1)
+  pub holds : inputRemaining b (covered b + i) ≤ c .most
+  pub reach : c .most ≤ pastWindow v b + (v .length - i)
 
--- the choices of position i
-pub record ChosenAt (w : ℕ) (v : Window) (book : Book) (b : Block) (i : ℕ) (choices : List ℕ) : Type 0 where
-  pub stands : ChoicesFor (tailOf v book b) (positionAt w v book b i) (positions w v book b (suc i)) choices (states w * i) (leastCount w (pastWindow v b) (inputRemaining b (covered b + suc i)))
+-- the first count of position i's row, and the last that it may hold
+abbrev pub lowestAt : ℕ → Window → Block → ℕ → ℕ
+lowestAt w v b i = leastCount w (pastWindow v b) (inputRemaining b (covered b + suc i))
 
--- the counts of position i's row
+abbrev pub highestAt : ℕ → Window → Block → ℕ → ℕ
+highestAt w v b i = min (inputRemaining b (covered b + suc i) + w) (pastWindow v b + (v .length - 1 - i)) + 1
+
+-- the first position's row holds all that it may
 pub record CountsAt (w : ℕ) (v : Window) (b : Block) (i : ℕ) (c : Counts) : Type 0 where
-  pub least : c .least ≡ leastCount w (pastWindow v b) (inputRemaining b (covered b + suc i))
-  pub most : c .most ≡ min (inputRemaining b (covered b + suc i) + w) (pastWindow v b + (v .length - 1 - i)) + 1
+  pub least : c .least ≡ lowestAt w v b i
+  pub most : i ≡ 0 → c .most ≡ highestAt w v b i
+
+-- The packed choices of position i stand for a byte each: the index of the level that a state of finite cost picks, 255 where the cost is infinite, up to
+-- the row's last count, above which no cost is finite.
+pub record ChosenAt (w : ℕ) (v : Window) (book : Book) (b : Block) (i : ℕ) (choices : List ℕ) : Type 0 where
+  pub last : ℕ
+  pub inside : (r p : ℕ) → p ≤ 1 → T (finite (best (tailOf v book b) (positionAt w v book b i ∷ positions w v book b (suc i)) r p)) → r ≤ last
+  pub stands : ChoicesFor (tailOf v book b) (positionAt w v book b i) (positions w v book b (suc i)) (unpacked choices) (2 * (choiceBytes w * i)) (lowestAt w v b i)
+  pub none : (r p : ℕ) → p ≤ 1 → lowestAt w v b i ≤ r → r ≤ last → T (not (finite (best (tailOf v book b) (positionAt w v book b i ∷ positions w v book b (suc i)) r p)))
+      → getD (unpacked choices) (2 * (choiceBytes w * i) + (2 * (r - lowestAt w v b i) + p)) 0 ≡ 255
 
 -- what a position's step leaves
 pub record Stepped (w : ℕ) (v : Window) (book : Book) (b : Block) (i : ℕ) (row row' : List Float) (choices choices' : List ℕ) (s : Step) : Type 0 where
   pub row-is : RowAt w v book b i row' (s .counts)
   pub size : length row' ≡ length row
   pub chosen : ChosenAt w v book b i choices'
-  pub elsewhere : Elsewhere (states w * i) (states w) choices choices'
+  pub elsewhere : Elsewhere (2 * (choiceBytes w * i)) (states w) (unpacked choices) (unpacked choices')
   pub after-is : s .after ≡ inputRemaining b (covered b + i)
   pub counts-are : CountsAt w v b i (s .counts)
 

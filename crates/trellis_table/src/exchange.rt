@@ -12,7 +12,7 @@ ghost use Prim.Native.Nat.{_+_, _*_, _≤_};
 ghost use lib.ListN.{length};
 ghost use Rattle.block.specs.Block.{blockOf, covered, inputRemaining};
 ghost use Rattle.block.specs.Band.{pastWindow};
-ghost use Rattle.block.specs.Checks.{states};
+ghost use Rattle.block.specs.Checks.{choiceBytes, states};
 ghost use Rattle.prices.specs.Book.{bookOf};
 ghost use Rattle.trellis_table.specs.Rows.{Rowable, TailRow, Rowed, Kept};
 
@@ -30,6 +30,7 @@ pub fn live_row<'a>(first: &'a [f32], second: &'a [f32], in_first: bool) -> &'a 
 }
 
 pub fn take_positions(
+    factored: bool,
     clusters: u32,
     map: &[u8],
     configs: &[u8],
@@ -53,7 +54,7 @@ pub fn take_positions(
     requires { ⌜ Rowable width (bookOf clusters (now map) (now configs) (now symbols) (now ready)) (blockOf shape settings bias scale (now scan) (now source) (now «inv_qm») (now levels)) plan ⌝ }
     requires { ⌜ past ≡ pastWindow (plan .window) (blockOf shape settings bias scale (now scan) (now source) (now «inv_qm») (now levels)) ⌝ }
     requires { ⌜ TailRow (plan .window) (bookOf clusters (now map) (now configs) (now symbols) (now ready)) (blockOf shape settings bias scale (now scan) (now source) (now «inv_qm») (now levels)) (now first) ⌝ }
-    requires { ⌜ (states width ≤ length (now first)) × ((states width ≤ length (now second)) × (states width * plan .window .length ≤ length (now choices))) ⌝ }
+    requires { ⌜ (states width ≤ length (now first)) × ((states width ≤ length (now second)) × (choiceBytes width * plan .window .length ≤ length (now choices))) ⌝ }
     ensures { λ r. ⌜ Rowed width (plan .window) (bookOf clusters (now (map .entry)) (now (configs .entry)) (now (symbols .entry)) (now (ready .entry))) (blockOf shape settings bias scale (now (scan .entry)) (now (source .entry)) (now («inv_qm» .entry)) (now (levels .entry))) 0 (now (first .exit)) (now (second .exit)) (now (choices .exit)) (r .step) (r .«in_first») ⌝ }
     ensures { λ r. ⌜ Kept (now (first .entry)) (now (first .exit)) (now (second .entry)) (now (second .exit)) (now (choices .entry)) (now (choices .exit)) ⌝ }
 {
@@ -73,6 +74,7 @@ pub fn take_positions(
         let after = step.after;
         if in_first {
             step = position::take_position(
+                factored,
                 clusters,
                 map,
                 configs,
@@ -99,6 +101,7 @@ pub fn take_positions(
             in_first = false;
         } else {
             step = position::take_position(
+                factored,
                 clusters,
                 map,
                 configs,

@@ -19,6 +19,18 @@ pub struct Settings {
     pub distance: f32,
 }
 
+// What a caller sets: what a search weighs by, and the half-width of the trellis's band.
+pub struct SearchSettings {
+    pub weighing: Settings,
+    pub half_width: u32,
+}
+
+// The half-width to begin with: document 01's, and the Rust's.
+pub const HALF_WIDTH: u32 = 6;
+
+// A cap that leaves document 01's window whole.
+pub const WINDOW_CAP: usize = 1024;
+
 // x held within lo to hi; a NaN stays one.
 fn clamped(x: f32, lo: f32, hi: f32) -> f32
     ensures { λ r. ⌜ r ≡ clamp x lo hi ⌝ }

@@ -29,7 +29,7 @@ use Rattle.scan.specs.Scan.{onceBelow, eachOnce, levelAt}
 use Rattle.weights.specs.Settings.{isDistance, validSettings, channelScale, weightAt}
 use Rattle.weights.specs.Weights.{clamp, chromaWeight, distortionWeight}
 use Rattle.laws.specs.Refusals.{firstRefused}
-use Rattle.block.specs.Checks.{formChecks, contentChecks, strategyCovered, check7, check8, check9, check18, check10, check11, check12, check13, blockRefusal}
+use Rattle.block.specs.Checks.{formChecks, contentChecks, strategyCovered, check7, check8, check9, check18, check10, check11, check12, check13, validWidth, blockRefusal}
 use Rattle.prices.specs.Checks.{each, symbolPrice, sameBits, check1, check2, mapBelow, check3, check4, allPriced, check5, rowKept, check6, firstFive, firstTwo, bookRefusal}
 use Rattle.prices.proofs.Each.{each-all}
 use Rattle.block_checks.specs.Passed.{Passed}
@@ -73,14 +73,14 @@ priced-never = passes (checked never) (first-check never) refl (one-cluster 1485
 
 -- ---- the block passes its checks
 
-zeros-pass : blockRefusal (windowOf (covered zeros)) zeros 0 ≡ 0
-unfolding blockRefusal formChecks contentChecks firstRefused strategyCovered check7 check8 check9 check18 check10 check11 check12 check13 each isPowerBelow validSettings isDistance validBias eachOnce onceBelow Scan.countOf isIdeal
+zeros-pass : blockRefusal halfWidth (windowOf (covered zeros)) zeros 0 ≡ 0
+unfolding blockRefusal formChecks contentChecks validWidth firstRefused strategyCovered check7 check8 check9 check18 check10 check11 check12 check13 each isPowerBelow validSettings isDistance validBias eachOnce onceBelow Scan.countOf isIdeal
     inputAt ideal idealAt covered levelAt zeros blockWith upFrom windowOf numerator0145 ofBits ofInt le lt eq mul
 zeros-pass = refl
 
 zeros-passed : Passed (windowOf (covered zeros)) zeros
 zeros-passed =
-    subst (λ (v : Window). blockRefusal v zeros 0 ≡ 0 → Passed v zeros) (whole-window (covered zeros)) (passed 1024 zeros (lit≤ tt)) zeros-pass
+    subst (λ (v : Window). blockRefusal halfWidth v zeros 0 ≡ 0 → Passed v zeros) (whole-window (covered zeros)) (passed halfWidth 1024 zeros (lit≤ tt)) zeros-pass
 
 -- the problem, every symbol at price x
 abbrev pub problemAt : Float → Problem

@@ -1,7 +1,8 @@
 -- `check_content` meets its contract. Assumes nothing.
 use mathlib.Core.Path.{sym, _∙_}
 use Rattle.block_checks.proofs.Laws.{formed}
-use Rattle.block_checks.proofs.Returns.{failed, held, few, scan-short, scanned, levels-held, source-held, inverse-held, window-held, eleven, twelve, thirteen, at11, at12, at13, passes}
+use Rattle.laws.proofs.Tests.{failed, held}
+use Rattle.block_checks.proofs.Returns.{few, scan-short, scanned, levels-held, source-held, inverse-held, window-held, eleven, twelve, thirteen, at11, at12, at13, passes}
 use Rattle.block_checks.proofs.check_content.Statement.{statement}
 use Rattle.block_checks.proofs.check_content.Tie as tie
 

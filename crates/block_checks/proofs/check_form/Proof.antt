@@ -3,7 +3,8 @@ use native.Mathlib.Omega.{arith}
 use borrow.Author.Needs.{needs}
 use mathlib.Core.Path.{sym, _∙_}
 use Rattle.block_checks.proofs.Sides.{product-most}
-use Rattle.block_checks.proofs.Returns.{failed, held, first-side, second-side, seven, eight, nine, strategy-coded, eighteen, ten, settings-fail, at7, at8, at9, at18, at10, none}
+use Rattle.laws.proofs.Tests.{failed, held}
+use Rattle.block_checks.proofs.Returns.{first-side, second-side, seven, eight, nine, strategy-coded, eighteen, ten, settings-fail, at7, at8, at9, at18, at10, none}
 use Rattle.block_checks.proofs.check_form.Statement.{statement}
 use Rattle.block_checks.proofs.check_form.Tie as tie
 

@@ -8,7 +8,7 @@ use Rattle.candidates.specs.Nearest.{isIdeal}
 use Rattle.prices.specs.Checks.{each}
 use Rattle.prices.proofs.Each.{each-more, each-fails}
 use Rattle.block.specs.Block.{idealAt}
-use Rattle.block_checks.proofs.Returns.{failed, held}
+use Rattle.laws.proofs.Tests.{failed, held}
 use Rattle.block_checks.proofs.ideals_within.Statement.{statement}
 use Rattle.block_checks.proofs.ideals_within.Tie as tie
 

@@ -10,7 +10,7 @@ use Rattle.candidates.specs.Candidates.{isCurrent}
 use Rattle.prices.specs.Checks.{each}
 use Rattle.prices.proofs.Each.{each-below, each-all, each-more, each-fails}
 use Rattle.scan.specs.Scan.{levelAt}
-use Rattle.block_checks.proofs.Returns.{failed, held}
+use Rattle.laws.proofs.Tests.{failed, held}
 use Rattle.block_checks.proofs.levels_within.Statement.{statement}
 use Rattle.block_checks.proofs.levels_within.Tie as tie
 

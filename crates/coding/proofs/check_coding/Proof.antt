@@ -2,7 +2,8 @@
 use mathlib.Core.Path.{refl, sym, _∙_}
 use native.Mathlib.Omega.{arith}
 use borrow.Author.Needs.{needs}
-use Rattle.coding.proofs.Returns.{failed, held, at1-map, at1-none, at1-many, at2-configs, at2-others, at3, at4, none}
+use Rattle.laws.proofs.Tests.{failed, held}
+use Rattle.coding.proofs.Returns.{at1-map, at1-none, at1-many, at2-configs, at2-others, at3, at4, none}
 use Rattle.coding.proofs.check_coding.Statement.{statement}
 use Rattle.coding.proofs.check_coding.Tie as tie
 

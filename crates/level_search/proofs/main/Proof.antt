@@ -9,7 +9,7 @@ use Rattle.level_search.proofs.main.Tie as tie
 
 abbrev Inv-loop : tie.InvT-loop
 Inv-loop input₀ out₀ map₀ configs₀ symbols₀ ready₀ levels₀ work₀ scan₀ source₀ inv-qm₀ choices₀ row-a₀ row-b₀ state₀ turns₀ input out map configs symbols ready levels work scan source inv-qm choices row-a row-b state turns =
-    (1114112 ≡ length input) × ((65536 ≡ length out) × ((14912 ≡ length map) × ((774 ≡ length configs) × ((33024 ≡ length symbols) × ((66048 ≡ length ready) × ((65600 ≡ length levels) × ((65600 ≡ length work) × ((65600 ≡ length scan) × ((65600 ≡ length source) × ((65600 ≡ length inv-qm) × ((28736 ≡ length choices) × ((64 ≡ length row-a) × ((64 ≡ length row-b) × (Sound 1114112 65536 state))))))))))))))
+    (1114112 ≡ length input) × ((65536 ≡ length out) × ((14912 ≡ length map) × ((774 ≡ length configs) × ((33024 ≡ length symbols) × ((66048 ≡ length ready) × ((65600 ≡ length levels) × ((65600 ≡ length work) × ((65600 ≡ length scan) × ((65600 ≡ length source) × ((65600 ≡ length inv-qm) × ((26688 ≡ length choices) × ((64 ≡ length row-a) × ((64 ≡ length row-b) × (Sound 1114112 65536 state))))))))))))))
 
 abbrev μ-loop : tie.MeasureT-loop
 μ-loop input₀ out₀ map₀ configs₀ symbols₀ ready₀ levels₀ work₀ scan₀ source₀ inv-qm₀ choices₀ row-a₀ row-b₀ state₀ turns₀ input out map configs symbols ready levels work scan source inv-qm choices row-a row-b state turns =

@@ -3,13 +3,13 @@ use mathlib.Core.Path.{_≡_}
 use mathlib.Core.Bool.{cond}
 use native.Mathlib.Omega.{arith}
 use borrow.Author.Needs.{needs}
-use Rattle.scan.specs.Marks.{markedBelow}
+use Rattle.scan.specs.Marks.{markedBelow, byteAt}
 use Rattle.scan.proofs.Marks.{least-none, least-more, least-done}
 use Rattle.scan.proofs.all_marked.Statement.{statement}
 use Rattle.scan.proofs.all_marked.Tie as tie
 
 abbrev Inv-loop : tie.InvT-loop
-Inv-loop marks n least₀ k₀ least k = (k ≤ n) × (least ≡ cond (markedBelow k marks) 1 0)
+Inv-loop marks n least₀ k₀ least k = (k ≤ n) × (least ≡ cond (markedBelow k (byteAt marks)) 1 0)
 
 abbrev μ-loop : tie.MeasureT-loop
 μ-loop marks n least₀ k₀ least k = n - k

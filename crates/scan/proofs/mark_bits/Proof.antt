@@ -1,71 +1,32 @@
-use Prim.Native.Nat.{_≤_, _<_, _-_, _/_, _%_}
-use mathlib.Core.Path.{_≡_, refl, sym, _∙_}
+use Prim.Native.Nat.{_≤_, _*_, _-_}
+use mathlib.Core.Path.{_≡_, refl, _∙_}
+use native.Mathlib.Omega.{arith}
 use borrow.Author.Needs.{needs}
 use denote.Ref.{now}
-use native.Mathlib.Omega.{arith}
-use lib.ListN.{length, getD}
-use Rattle.scan.proofs.Marks.{past-end}
-use Rattle.scan.proofs.Meeting.{Met, marked-twice, marked-all}
-use Rattle.scan.proofs.Bits.{bits, bits-none, bits-more, bit-fits, bit-one, one-shl}
+use lib.ListN.{length}
+use Rattle.scan.specs.Marks.{bitAt, Marks}
+use Rattle.scan.proofs.Marks.{marks-done}
+use Rattle.scan.proofs.Bits.{bits-none}
 use Rattle.scan.proofs.mark_bits.Statement.{statement}
 use Rattle.scan.proofs.mark_bits.Tie as tie
 
 abbrev Inv-loop : tie.InvT-loop
-Inv-loop scan words₀ k₀ words k = (k ≤ length scan) × ((length words ≡ length words₀) × Met (bits words) scan k)
+Inv-loop scan words₀ bad₀ k₀ words bad k =
+    (k ≤ length scan) × ((length words ≡ length words₀) × Marks scan bad (bitAt words) k)
 
 abbrev μ-loop : tie.MeasureT-loop
-μ-loop scan words₀ k₀ words k = length scan - k
+μ-loop scan words₀ bad₀ k₀ words bad k = length scan - k
 
 loop-holds : tie.Need-loop-holds Inv-loop μ-loop
-loop-holds c = (search needs, (refl, bits-none (now (c .before .before .args .words)) (now (c .before .before .args .scan)) (c .before .before .pre .0) (c .before .before .pre .1)))
+loop-holds c =
+    let entry = c .before .before in
+    (search needs, (refl, bits-none (now (entry .args .words)) (now (entry .args .scan)) (entry .pre .0 .1) (entry .pre .1)))
 
-mul-wide : tie.Need-mul-wide Inv-loop μ-loop
-mul-wide c = search needs
+sub-if1 : tie.Need-sub-if1 Inv-loop μ-loop
+sub-if1 c = search needs
 
-shared-slice-read-wide : tie.Need-shared-slice-read-wide Inv-loop μ-loop
-shared-slice-read-wide c = search needs
-
-wide-requires : tie.Need-wide-requires Inv-loop μ-loop
-wide-requires c κs = search needs
-
-same-length : tie.Need-same-length Inv-loop μ-loop
-same-length c = search needs
-
-returns : tie.Need-returns Inv-loop μ-loop
-returns c = sym (past-end _ _ (c .before .before .before .loop-test .taken) (c .before .wide .ensures) (c .if1 .taken))
-
-mul-word : tie.Need-mul-word Inv-loop μ-loop
-mul-word c = search needs
-
-slice-read-word : tie.Need-slice-read-word Inv-loop μ-loop
-slice-read-word c = omega arith
-
-shr-if2 : tie.Need-shr-if2 Inv-loop μ-loop
-shr-if2 c = omega arith
-
-same-length-2 : tie.Need-same-length-2 Inv-loop μ-loop
-same-length-2 c = search needs
-
-returns-2 : tie.Need-returns-2 Inv-loop μ-loop
-returns-2 c =
-    let turn = c .before .before .before .before .before in
-    sym (marked-twice (turn .before .loop .inv .1 .1) (turn .loop-test .taken) (c .before .before .before .wide .ensures) (c .before .before .if1 .left) (bit-one _ (c .if2 .taken)))
-
-shl-words : tie.Need-shl-words Inv-loop μ-loop
-shl-words c = omega arith
-
-add-words : tie.Need-add-words Inv-loop μ-loop
-add-words c =
-    let x = c .before .before .before .wide .result in
-    let word = getD (c .before .before .before .before .before .before .loop .words) (x / 64) 0 in
-    let below : x % 64 < 64 = omega arith in
-    record { fits = rw (one-shl (x % 64) below) (bit-fits word (x % 64) (c .before .slice-known2 .given (x / 64) .fits) below (c .if2 .left)) }
-
-mul-words : tie.Need-mul-words Inv-loop μ-loop
-mul-words c = search needs
-
-slice-write-words : tie.Need-slice-write-words Inv-loop μ-loop
-slice-write-words c = omega arith
+mark-bit-requires : tie.Need-mark-bit-requires Inv-loop μ-loop
+mark-bit-requires c κs = ((omega arith, (omega arith, omega arith)), c .before .before .before .loop .inv .1 .1)
 
 add-k : tie.Need-add-k Inv-loop μ-loop
 add-k c = search needs
@@ -75,18 +36,30 @@ loop-less c = search needs
 
 loop-again : tie.Need-loop-again Inv-loop μ-loop
 loop-again c =
-    let turn = c .before .before .before .before .before in
-    let x = c .before .before .before .wide .result in
-    let below : x % 64 < 64 = omega arith in
-    (search needs, (search needs, rw (one-shl (x % 64) below) (bits-more (turn .before .loop .words) (now (turn .before .before .before .before .args .scan)) (omega arith) (c .before .before .if1 .left) (c .if2 .left) (turn .before .loop .inv .1 .1) (turn .loop-test .taken) (c .before .before .before .wide .ensures))))
+    let marked = c .before .before .mark-bit .ensures in
+    (omega arith, (marked .1 ∙ c .before .before .before .before .before .before .loop .inv .1 .0, marked .0))
 
-same-length-3 : tie.Need-same-length-3 Inv-loop μ-loop
-same-length-3 c = search needs
+mark-four-requires : tie.Need-mark-four-requires Inv-loop μ-loop
+mark-four-requires c κs = ((omega arith, (omega arith, omega arith)), c .before .before .before .loop .inv .1 .1)
 
-returns-3 : tie.Need-returns-3 Inv-loop μ-loop
-returns-3 c =
+add-k-2 : tie.Need-add-k-2 Inv-loop μ-loop
+add-k-2 c = search needs
+
+loop-less-2 : tie.Need-loop-less-2 Inv-loop μ-loop
+loop-less-2 c = search needs
+
+loop-again-2 : tie.Need-loop-again-2 Inv-loop μ-loop
+loop-again-2 c =
+    let marked = c .before .before .mark-four .ensures in
+    (omega arith, (marked .1 ∙ c .before .before .before .before .before .before .loop .inv .1 .0, marked .0))
+
+same-length : tie.Need-same-length Inv-loop μ-loop
+same-length c = search needs
+
+returns : tie.Need-returns Inv-loop μ-loop
+returns c =
     let end : c .before .loop .k ≡ length (now (c .before .before .before .before .args .scan)) = omega arith in
-    sym (marked-all (rw end at (c .before .loop .inv .1 .1)))
+    (marks-done _ _ _ (rw end at (c .before .loop .inv .1 .1)), c .before .loop .inv .1 .0)
 
 pub mark-bits-spec : {M : Type 1} → statement M
 mark-bits-spec =
@@ -95,22 +68,14 @@ mark-bits-spec =
     Inv-loop
     μ-loop
     loop-holds
-    mul-wide
-    shared-slice-read-wide
-    wide-requires
-    same-length
-    returns
-    mul-word
-    slice-read-word
-    shr-if2
-    same-length-2
-    returns-2
-    shl-words
-    add-words
-    mul-words
-    slice-write-words
+    sub-if1
+    mark-bit-requires
     add-k
     loop-less
     loop-again
-    same-length-3
-    returns-3)
+    mark-four-requires
+    add-k-2
+    loop-less-2
+    loop-again-2
+    same-length
+    returns)

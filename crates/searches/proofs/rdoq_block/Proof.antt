@@ -6,7 +6,7 @@ use Rattle.searches.proofs.rdoq_block.Statement.{statement}
 use Rattle.searches.proofs.rdoq_block.Tie as tie
 
 rdoq-block-in-requires : tie.Need-rdoq-block-in-requires
-rdoq-block-in-requires c κs = (lit≤ tt, lit≤ tt)
+rdoq-block-in-requires c κs = lit≤ tt
 
 same-length : tie.Need-same-length
 same-length c = search needs
@@ -26,10 +26,4 @@ returns c = whole (c .before .before .before .before .before .before .before .rd
 pub rdoq-block-spec : {M : Type 1} → statement M
 rdoq-block-spec =
     tie.close
-    (tie.spec
-    rdoq-block-in-requires
-    same-length
-    same-length-2
-    same-length-3
-    same-length-4
-    returns)
+    (tie.spec rdoq-block-in-requires same-length same-length-2 same-length-3 same-length-4 returns)

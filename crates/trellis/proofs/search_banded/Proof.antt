@@ -1,7 +1,7 @@
 -- `search_banded` meets its contract. Assumes nothing.
-use mathlib.Core.Path.{refl}
+use Rattle.search_checks.proofs.Refusing.{checked-of, window-of}
 use Rattle.steps.proofs.Plans.{planned-lists}
-use Rattle.trellis.proofs.Banded.{accepted-block, rowable-of, room-here, outcome-here, done-of, done-answer}
+use Rattle.trellis.proofs.Banded.{searched-banded, room-kept, done-of, done-answer, windowed-answer}
 use Rattle.trellis.proofs.Whole.{still-long}
 use borrow.Author.Needs.{needs}
 use Rattle.trellis.proofs.search_banded.Statement.{statement}
@@ -9,24 +9,26 @@ use Rattle.trellis.proofs.search_banded.Tie as tie
 
 plan-of-requires : tie.Need-plan-of-requires
 plan-of-requires c κs =
-    let pre = c .before .before .before .before .before .before .before .before .before .before .pre in
-    let a = accepted-block _ _ _ _ _ (pre .0 .1) (pre .1) in
+    let a = c .before .before .before .before .before .before .before .before .before .before .pre .1 .0 .passed in
     ((a .first-side, a .second-side), (a .strategy, a .channel))
 
 search-requires : tie.Need-search-requires
 search-requires c κs =
     let pre = c .before .before .before .before .before .before .before .before .before .before .before .before .before .before .before .pre in
     let plan = c .before .before .before .before .plan-of .ensures in
-    let K = rowable-of _ _ _ _ _ (pre .0 .1) (pre .1) _ (plan .1 .1) (pre .0 .0) (planned-lists _ (plan .0) _ _ _ _) (plan .1 .0) in
-    (K, room-here _ _ _ _ _ (pre .0 .1) (pre .1) (c .before .before .before .before .plan-of .result) (plan .1 .1))
+    let R = room-kept (window-of _ _ (plan .1 .1)) (pre .1 .1) in (
+      record { checked = checked-of _ _ (plan .1 .1) (pre .1 .0) (planned-lists _ (plan .0) _ _ _ _) (plan .1 .0); narrow = pre .0 },
+      (R .first, (R .second, R .choices-long)),
+    )
 
 write-found-requires : tie.Need-write-found-requires
 write-found-requires c κs =
-    let pre = c .before .before .before .before .before .before .before .before .before .before .before .before .before .before .before .before .before .before .before .before .before .before .before .before .pre in
-    let plan = c .before .before .before .before .before .before .before .before .before .before .before .before .before .plan-of .ensures in
+    let planning = c .before .before .before .before .before .before .before .before .before .before .before .before .before in
+    let pre = planning .before .before .before .before .before .before .before .before .before .before .before .pre in
+    let plan = planning .plan-of .ensures in
     let found = c .before .before .before .before .before .before .before .before .search .ensures in
-    let K = rowable-of _ _ _ _ _ (pre .0 .1) (pre .1) _ (plan .1 .1) (pre .0 .0) (planned-lists _ (plan .0) _ _ _ _) (plan .1 .0) in
-    done-of K (found .1) (still-long (found .0 .choices) (room-here _ _ _ _ _ (pre .0 .1) (pre .1) (c .before .before .before .before .before .before .before .before .before .before .before .before .before .plan-of .result) (plan .1 .1) .1 .1))
+    let K = checked-of _ _ (plan .1 .1) (pre .1 .0) (planned-lists _ (plan .0) _ _ _ _) (plan .1 .0) in
+    done-of (pre .0) K (found .1) (still-long (found .0 .choices) (room-kept (window-of _ _ (plan .1 .1)) (pre .1 .1) .choices-long))
 
 clear-choices-requires : tie.Need-clear-choices-requires
 clear-choices-requires c κs = search needs
@@ -59,9 +61,9 @@ returns c =
     let pre = planning .before .before .before .before .before .before .before .before .before .before .before .pre in
     let plan = planning .plan-of .ensures in
     let found = searched .search .ensures in
-    let K = rowable-of _ _ _ _ _ (pre .0 .1) (pre .1) _ (plan .1 .1) (pre .0 .0) (planned-lists _ (plan .0) _ _ _ _) (plan .1 .0) in
-    let done = done-answer K (found .1) (still-long (found .0 .choices) (room-here _ _ _ _ _ (pre .0 .1) (pre .1) (planning .plan-of .result) (plan .1 .1) .1 .1)) (wrote .write-found .ensures) in
-    outcome-here _ _ _ _ _ (pre .0 .1) (pre .1) (planning .plan-of .result) (plan .1 .1) refl done (cleared .clear-choices .ensures) (found .0 .choices) (row-cleared .clear-row .ensures) (found .0 .first) (c .before .before .clear-row2 .ensures) (found .0 .second)
+    let K = checked-of _ _ (plan .1 .1) (pre .1 .0) (planned-lists _ (plan .0) _ _ _ _) (plan .1 .0) in
+    let done = done-answer (pre .0) K (found .1) (still-long (found .0 .choices) (room-kept (window-of _ _ (plan .1 .1)) (pre .1 .1) .choices-long)) (wrote .write-found .ensures) in
+    searched-banded _ _ _ _ _ (windowed-answer _ _ _ (window-of _ _ (plan .1 .1)) done) (cleared .clear-choices .ensures) (found .0 .choices) (row-cleared .clear-row .ensures) (found .0 .first) (c .before .before .clear-row2 .ensures) (found .0 .second)
 
 pub search-banded-spec : {M : Type 1} → statement M
 search-banded-spec =

@@ -1,3 +1,4 @@
+use Rattle.half_bytes.proofs.Laws.{unpacked-size}
 use borrow.Author.Needs.{needs}
 use Rattle.trellis_sole.proofs.fill_row.Statement.{statement}
 use Rattle.trellis_sole.proofs.fill_row.Tie as tie
@@ -9,7 +10,7 @@ same-length : tie.Need-same-length
 same-length c = c .before .before .before .before .fill-sole .ensures .0
 
 same-length-2 : tie.Need-same-length-2
-same-length-2 c = c .before .before .before .before .fill-sole .ensures .1 .0 .size
+same-length-2 c = unpacked-size _ _ (c .before .before .before .before .fill-sole .ensures .1 .0 .size)
 
 returns : tie.Need-returns
 returns c = c .before .before .before .before .fill-sole .ensures
@@ -21,7 +22,7 @@ same-length-3 : tie.Need-same-length-3
 same-length-3 c = c .before .before .before .before .fill-row .ensures .0
 
 same-length-4 : tie.Need-same-length-4
-same-length-4 c = c .before .before .before .before .fill-row .ensures .1 .0 .size
+same-length-4 c = unpacked-size _ _ (c .before .before .before .before .fill-row .ensures .1 .0 .size)
 
 returns-2 : tie.Need-returns-2
 returns-2 c = c .before .before .before .before .fill-row .ensures

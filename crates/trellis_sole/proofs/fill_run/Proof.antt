@@ -6,14 +6,16 @@ use mir.Val.{toZ}
 use mathlib.Core.List.{_∷_, []}
 use native.Mathlib.Omega.{arith}
 use mathlib.Core.Path.{_≡_}
-use Prim.Native.Nat.{ℕ, _+_, _-_}
+use Prim.Native.Nat.{ℕ, _+_, _-_, _*_}
+use Rattle.half_bytes.specs.Packed.{unpacked}
+use Rattle.half_bytes.proofs.Laws.{unpacked-size}
 use borrow.Author.Needs.{needs}
 use Rattle.trellis_sole.proofs.fill_run.Statement.{statement}
 use Rattle.trellis_sole.proofs.fill_run.Tie as tie
 
 abbrev Inv-loop : tie.InvT-loop
 Inv-loop level distortion token next span current₀ choices₀ at least from upto r₀ current choices r =
-    Ran (λ book x n. SoleReady book x next span (toZ w32 level) distortion token n) (toZ w32 level ∷ []) next span at least from upto r current₀ current choices₀ choices
+    Ran (λ book x n. SoleReady book x next span (toZ w32 level) distortion token n) (toZ w32 level ∷ []) next span (2 * at) least from upto r current₀ current (unpacked choices₀) (unpacked choices)
 
 abbrev μ-loop : tie.MeasureT-loop
 μ-loop level distortion token next span current₀ choices₀ at least from upto r₀ current choices r = upto + 1 - r
@@ -49,7 +51,7 @@ same-length : tie.Need-same-length Inv-loop μ-loop
 same-length c = c .before .loop .inv .size
 
 same-length-2 : tie.Need-same-length-2 Inv-loop μ-loop
-same-length-2 c = c .before .loop .inv .elsewhere .size
+same-length-2 c = unpacked-size _ _ (c .before .loop .inv .elsewhere .size)
 
 returns : tie.Need-returns Inv-loop μ-loop
 returns c =

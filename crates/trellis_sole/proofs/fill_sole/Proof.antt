@@ -8,14 +8,16 @@ use mir.Syntax.{w32}
 use mir.Val.{toZ}
 use mathlib.Core.List.{_∷_, []}
 use mathlib.Core.Path.{_≡_, sym, _∙_}
-use Prim.Native.Nat.{_+_, _-_}
+use Prim.Native.Nat.{_+_, _-_, _*_}
+use Rattle.half_bytes.specs.Packed.{unpacked}
+use Rattle.half_bytes.proofs.Laws.{unpacked-size}
 use borrow.Author.Needs.{needs}
 use Rattle.trellis_sole.proofs.fill_sole.Statement.{statement}
 use Rattle.trellis_sole.proofs.fill_sole.Tie as tie
 
 abbrev Inv-loop : tie.InvT-loop
 Inv-loop clusters map configs symbols ready place levels count next span current₀ choices₀ at least most level distortion r₀ current choices r =
-    SoFar (bookOf clusters map configs symbols ready) place (toZ w32 level ∷ []) next span at least most r current₀ current choices₀ choices
+    SoFar (bookOf clusters map configs symbols ready) place (toZ w32 level ∷ []) next span (2 * at) least most r current₀ current (unpacked choices₀) (unpacked choices)
 
 abbrev μ-loop : tie.MeasureT-loop
 μ-loop clusters map configs symbols ready place levels count next span current₀ choices₀ at least most level distortion r₀ current choices r = most + 1 - r
@@ -86,7 +88,7 @@ same-length : tie.Need-same-length Inv-loop μ-loop
 same-length c = c .before .loop .inv .size
 
 same-length-2 : tie.Need-same-length-2 Inv-loop μ-loop
-same-length-2 c = c .before .loop .inv .elsewhere .size
+same-length-2 c = unpacked-size _ _ (c .before .loop .inv .elsewhere .size)
 
 returns : tie.Need-returns Inv-loop μ-loop
 returns c =

@@ -3,7 +3,7 @@ use lib.ListN.{length, length-set}
 use mathlib.Core.Path.{ap, _∙_}
 use native.Mathlib.Omega.{arith}
 use Rattle.steps.proofs.Zero.{level-back}
-use Rattle.trellis_row.proofs.Rows.{elsewhere-pair, written-settled}
+use Rattle.trellis_row.proofs.Rows.{elsewhere-pair, settled-kept, written-settled}
 use Rattle.trellis_sole.proofs.Sole.{sole-state, sole-dead, tail-infinite, states-first, states-second}
 use borrow.Author.Needs.{needs}
 use Rattle.trellis_sole.proofs.row_state.Statement.{statement}
@@ -12,14 +12,11 @@ use Rattle.trellis_sole.proofs.row_state.Tie as tie
 tail-of-requires : tie.Need-tail-of-requires
 tail-of-requires c κs = search needs
 
-sub-i : tie.Need-sub-i
-sub-i c = search needs
-
-mul-i : tie.Need-mul-i
-mul-i c = search needs
-
 infinity-requires : tie.Need-infinity-requires
 infinity-requires c κs = search needs
+
+sub-write-pair : tie.Need-sub-write-pair
+sub-write-pair c = search needs
 
 states-of-requires : tie.Need-states-of-requires
 states-of-requires c κs = search needs
@@ -45,10 +42,13 @@ returns c =
         rw (pair .1) (elsewhere-pair _ _ _ _),
         λ book x R.
             written-settled book x _ _ _ _ _ _ _ _ _ _ _ _ _ _ (rest .0) (rest .1 .0) (rest .1 .1) (pair .0) (pair .1)
-            (sole-state R 0 (lit≤ tt) tail (R .token-is .first) (states-first _ _ _ states))
-            (sole-state R 1 (lit≤ tt) tail (R .token-is .second) (states-second _ _ _ states)),
+            (settled-kept (lit≤ tt) (sole-state R 0 (lit≤ tt) tail (R .token-is .first) (states-first _ _ _ states)))
+            (settled-kept (lit≤ tt) (sole-state R 1 (lit≤ tt) tail (R .token-is .second) (states-second _ _ _ states))),
       ),
     )
+
+sub-write-pair-2 : tie.Need-sub-write-pair-2
+sub-write-pair-2 c = search needs
 
 unreachable-requires : tie.Need-unreachable-requires
 unreachable-requires c κs = search needs
@@ -75,7 +75,7 @@ returns-2 c =
         λ book x R.
             let none = tail-infinite R tail (c .before .before .before .before .before .before .before .before .before .infinity .ensures) (c .before .before .before .before .before .before .before .before .if1 .left) in
             written-settled book x _ _ _ _ _ _ _ _ _ _ _ _ _ _ (rest .0) (rest .1 .0) (rest .1 .1) (pair .0) (pair .1)
-            (sole-dead R 0 (lit≤ tt) tail _ none (dead .0)) (sole-dead R 1 (lit≤ tt) tail _ none (dead .1)),
+            (settled-kept (lit≤ tt) (sole-dead R 0 (lit≤ tt) tail none (dead .0) (dead .1 .1 .0))) (settled-kept (lit≤ tt) (sole-dead R 1 (lit≤ tt) tail none (dead .1 .0) (dead .1 .1 .1))),
       ),
     )
 
@@ -84,14 +84,14 @@ row-state-spec =
     tie.close
     (tie.spec
     tail-of-requires
-    sub-i
-    mul-i
     infinity-requires
+    sub-write-pair
     states-of-requires
     write-pair-requires
     same-length
     same-length-2
     returns
+    sub-write-pair-2
     unreachable-requires
     write-pair-requires-2
     same-length-3

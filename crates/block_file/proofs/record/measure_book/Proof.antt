@@ -16,8 +16,14 @@ ended-by-requires c κs = search needs
 
 returns-2 : tie.Need-returns-2
 returns-2 c =
-    let other : c .ended-by .result .kind ≡ 4 → _≡_ {A = ℕ} 3 4 = c .ended-by .ensures .1 .1 in
-    (search needs, (search needs, λ e. let wrong = other e in absurd (omega arith)))
+    let block : c .ended-by .result .kind ≡ 4 → _≡_ {A = ℕ} 3 4 = c .ended-by .ensures .1 .1 .0 in
+    let width : c .ended-by .result .kind ≡ 6 → _≡_ {A = ℕ} 3 6 = c .ended-by .ensures .1 .1 .1 in
+    record {
+      inside = search needs;
+      book = search needs;
+      block = λ e. let wrong = block e in absurd (omega arith);
+      width = λ e. let wrong = width e in absurd (omega arith);
+    }
 
 pub measure-book-spec : {M : Type 1} → statement M
 measure-book-spec = tie.close (tie.spec returns book-record-requires ended-by-requires returns-2)

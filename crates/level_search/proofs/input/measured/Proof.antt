@@ -20,10 +20,11 @@ returns : tie.Need-returns
 returns c =
     let found = c .measure .ensures in
     record {
-      inside = omega (arith, simp (length-take, length-drop) at (found .0));
+      inside = omega (arith, simp (length-take, length-drop) at (found .inside));
       room = omega arith;
-      book = λ e. omega (arith, simp (length-take, length-drop) at (found .1 .0 e));
-      block = λ e. omega (arith, simp (length-take, length-drop) at (found .1 .1 e));
+      book = λ e. omega (arith, simp (length-take, length-drop) at (found .book e));
+      block = λ e. omega (arith, simp (length-take, length-drop) at (found .block e));
+      width = λ e. omega (arith, simp (length-take, length-drop) at (found .width e));
     }
 
 pub measured-spec : {M : Type 1} → statement M

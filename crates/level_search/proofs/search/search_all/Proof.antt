@@ -7,11 +7,11 @@ use Rattle.level_search.proofs.search.search_all.Tie as tie
 
 abbrev Inv-loop : tie.InvT-loop
 Inv-loop number clusters map configs symbols ready head scan source inv-qm levels work₀ choices₀ row-a₀ row-b₀ out₀ used end₀ search₀ work choices row-a row-b out end search =
-    (length work ≡ length work₀) × ((length choices ≡ length choices₀) × ((length row-a ≡ length row-a₀) × ((length row-b ≡ length row-b₀) × ((length out ≡ length out₀) × ((end ≤ length out) × (search ≤ 3))))))
+    (length work ≡ length work₀) × ((length choices ≡ length choices₀) × ((length row-a ≡ length row-a₀) × ((length row-b ≡ length row-b₀) × ((length out ≡ length out₀) × ((end ≤ length out) × (search ≤ 4))))))
 
 abbrev μ-loop : tie.MeasureT-loop
 μ-loop number clusters map configs symbols ready head scan source inv-qm levels work₀ choices₀ row-a₀ row-b₀ out₀ used end₀ search₀ work choices row-a row-b out end search =
-    3 - search
+    4 - search
 
 loop-holds : tie.Need-loop-holds Inv-loop μ-loop
 loop-holds c = search needs

@@ -61,14 +61,14 @@ token-cost-requires-2 c κs =
 nonzero-requires : tie.Need-nonzero-requires
 nonzero-requires c κs = search needs
 
-add-add-tokens : tie.Need-add-add-tokens
-add-add-tokens c =
+add-k : tie.Need-add-k
+add-k c =
     let start = c .before .before .before .before .before .before .before .before .before .before in
     let here = some-left _ _ _ _ (start .pre .1 .1 .1 .1) (c .before .before .before .before .if1 .left) .1 in
     search needs
 
-sub-add-tokens : tie.Need-sub-add-tokens
-sub-add-tokens c =
+sub-remaining : tie.Need-sub-remaining
+sub-remaining c =
     let start = c .before .before .before .before .before .before .before .before .before .before in
     let some = c .before .before .before .before .if1 .left in
     let level = start .pre .1 .1 .0 .level _ (le-refl _) (some-left _ _ _ _ (start .pre .1 .1 .1 .1) some .1) in
@@ -88,8 +88,11 @@ add-tokens-requires c κs =
       (
         start .pre .1 .0,
         (
-          record { size = whole .size; within = whole .within; level = λ k h. whole .level k (omega arith) },
-          ((omega (arith, start .pre .1 .1 .1 .0 .0), omega (arith, here)), (omega (arith, start .pre .1 .1 .1 .1, one, first), rw one (nz-le _))),
+          whole .size,
+          (
+            record { ended = omega (arith, here); flag = rw one (nz-le _); left = omega (arith, start .pre .1 .1 .1 .1, one, first); within = whole .within; level = λ k h. whole .level k (omega (arith, h)) },
+            omega (arith, start .pre .1 .1 .1 .0 .0),
+          ),
         ),
       ),
     )
@@ -117,7 +120,7 @@ tail-costs-spec =
     token-cost-requires
     token-cost-requires-2
     nonzero-requires
-    add-add-tokens
-    sub-add-tokens
+    add-k
+    sub-remaining
     add-tokens-requires
     returns-2)

@@ -1,64 +1,41 @@
 -- `walk::choice_at` meets its contract. Assumes nothing.
-use Prim.Native.Nat.{_+_, _-_, _*_, _≤_}
+use mathlib.Core.Path.{_≡_}
+use Prim.Native.Nat.{_+_, _-_, _*_}
 use native.Mathlib.Omega.{arith}
-use native.Mathlib.Nat.{le-refl, mul-le-mul}
-use Rattle.block.specs.Checks.{states}
-use Rattle.trellis_table.proofs.Steps.{small-at}
+use Rattle.block.specs.Checks.{choiceBytes}
+use Rattle.half_bytes.proofs.Laws.{wide-few}
 use borrow.Author.Needs.{needs}
 use Rattle.trellis.proofs.walk.choice_at.Statement.{statement}
 use Rattle.trellis.proofs.walk.choice_at.Tie as tie
 
-mul-result : tie.Need-mul-result
-mul-result c = record { fits = omega (arith, c .pre .1 .1 .1 .1) }
+mul-half : tie.Need-mul-half
+mul-half c = search needs
 
-add-result : tie.Need-add-result
-add-result c = record { fits = omega (arith, c .pre .1 .1 .1 .1) }
+add-half : tie.Need-add-half
+add-half c = search needs
 
-mul-result-2 : tie.Need-mul-result-2
-mul-result-2 c = record { fits = omega (arith, c .pre .1 .1 .1 .1) }
+mul-half-2 : tie.Need-mul-half-2
+mul-half-2 c = search needs
 
-mul-result-3 : tie.Need-mul-result-3
-mul-result-3 c = record { fits = small-at _ _ 1024 (c .pre .1 .1 .1 .1) (c .pre .0 .0) (le-refl _) }
+sub-half : tie.Need-sub-half
+sub-half c = search needs
 
-sub-result : tie.Need-sub-result
-sub-result c = search needs
+add-half-2 : tie.Need-add-half-2
+add-half-2 c = search needs
 
-mul-result-4 : tie.Need-mul-result-4
-mul-result-4 c = search needs
-
-add-result-2 : tie.Need-add-result-2
-add-result-2 c = search needs
-
-add-result-3 : tie.Need-add-result-3
-add-result-3 c =
-    let wide : states (c .args .width) ≤ 52 = omega (arith, c .pre .1 .1 .1 .1) in
-    let near : c .args .i ≤ 1024 = omega (arith, c .pre .0 .0) in
-    let far : states (c .args .width) * c .args .i ≤ 52 * 1024 = mul-le-mul wide near in
-    record { fits = omega (arith, c .pre .0 .1 .0, c .pre .1 .1 .1 .0) }
-
-shared-slice-read-result : tie.Need-shared-slice-read-result
-shared-slice-read-result c = let pre = c .before .pre in omega (arith, pre .0 .1 .1, pre .1 .0, pre .1 .1 .0, pre .1 .1 .1 .0)
+half-requires : tie.Need-half-requires
+half-requires c κs = search needs
 
 cast-result : tie.Need-cast-result
-cast-result c =
-    let a = c .before .args in
-    omega (arith, c .shared-slice-known .given (states (a .width) * a .i + (2 * (a .left - a .least) + a .prev)))
+cast-result c = search needs
 
 returns : tie.Need-returns
-returns c = search needs
+returns c =
+    let a = c .before .before .args in
+    let place : 2 * (choiceBytes (a .width) * a .i + (a .left - a .least)) + a .prev ≡ 2 * (choiceBytes (a .width) * a .i) + (2 * (a .left - a .least) + a .prev) = omega arith in
+    λ few. wide-few _ _ (rw place at (c .half .ensures .0)) few
 
 pub choice-at-spec : {M : Type 1} → statement M
 choice-at-spec =
     tie.close
-    (tie.spec
-    mul-result
-    add-result
-    mul-result-2
-    mul-result-3
-    sub-result
-    mul-result-4
-    add-result-2
-    add-result-3
-    shared-slice-read-result
-    cast-result
-    returns)
+    (tie.spec mul-half add-half mul-half-2 sub-half add-half-2 half-requires cast-result returns)

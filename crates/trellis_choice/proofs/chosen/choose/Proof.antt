@@ -17,7 +17,8 @@ returns-2 : tie.Need-returns-2
 returns-2 c =
     λ g known at X Z none.
     settled-nonzero known _ _ X Z none _ _ (c .before .before .with-tail .ensures) (c .before .if1 .left)
-    (λ f. c .nonzero-choice .ensures g (known .each) (known .first) (known .costs) X refl f)
+    (λ f. c .nonzero-choice .ensures .1 g (known .first) (known .costs) X refl f)
+    (λ f. c .nonzero-choice .ensures .0 g (known .each) (known .first) (known .costs) X refl f)
 
 pub choose-spec : {M : Type 1} → statement M
 choose-spec = tie.close (tie.spec with-tail-requires returns nonzero-choice-requires returns-2)

@@ -8,14 +8,16 @@ use lib.ListN.{length, length-set}
 use native.Mathlib.Nat.{le-refl}
 use native.Mathlib.Omega.{arith}
 use mathlib.Core.Path.{_≡_, refl, sym, ap, _∙_}
-use Prim.Native.Nat.{_+_, _-_}
+use Prim.Native.Nat.{_+_, _-_, _*_}
+use Rattle.half_bytes.specs.Packed.{unpacked}
+use Rattle.half_bytes.proofs.Laws.{unpacked-size, kept-none}
 use borrow.Author.Needs.{needs}
 use Rattle.trellis_row.proofs.row.fill_row.Statement.{statement}
 use Rattle.trellis_row.proofs.row.fill_row.Tie as tie
 
 abbrev Inv-loop : tie.InvT-loop
 Inv-loop clusters map configs symbols ready place levels count next span current₀ choices₀ at least most distortion first₀ second₀ zero r₀ current choices first second r =
-    SoFar (bookOf clusters map configs symbols ready) place (listed (inArray count levels)) next span at least most r current₀ current choices₀ choices
+    SoFar (bookOf clusters map configs symbols ready) place (listed (inArray count levels)) next span (2 * at) least most r current₀ current (unpacked choices₀) (unpacked choices)
     × ((length first ≡ 5) × (length second ≡ 5))
 
 abbrev μ-loop : tie.MeasureT-loop
@@ -41,11 +43,6 @@ infinite-requires c κs = search needs
 
 sub-write-pair : tie.Need-sub-write-pair Inv-loop μ-loop
 sub-write-pair c = c .before .before .before .before .before .before .before .loop .inv .0 .from
-
-mul-write-pair : tie.Need-mul-write-pair Inv-loop μ-loop
-mul-write-pair c =
-    let work = c .before .before .before .before .before .before .before .before .before .before .before .before .before .before .before .before .before .before .pre .0 in
-    record { fits = omega (arith, c .before .before .before .before .before .before .loop-test .taken, work .left, covered-most (work .covers)) }
 
 unreachable-requires : tie.Need-unreachable-requires Inv-loop μ-loop
 unreachable-requires c κs = search needs
@@ -82,7 +79,7 @@ loop-again c =
           (written-dead _ _ _ _ _ _ _ _ _ _ _ _ _ _ _ _ (inv .0 .from) (fits .0) (fits .1) (pair .0) (pair .1)
           (λ p q. work .locals _ p q (le-refl _))
           (not-below _ (nonzero-tail-cost work _) (rw nonzero at (dead .0)))
-          (not-below _ (zero-tail-cost work _ _) (rw zero at (dead .1))) (none .0) (none .1)),
+          (not-below _ (zero-tail-cost work _ _) (rw zero at (dead .1))) (none .0) (none .1 .0) (kept-none _ (none .1 .1 .0) ∙ none .1 .1 .0) (kept-none _ (none .1 .1 .1) ∙ none .1 .1 .1)),
       inv .1,
     )
 
@@ -150,7 +147,7 @@ same-length : tie.Need-same-length Inv-loop μ-loop
 same-length c = c .before .loop .inv .0 .size
 
 same-length-2 : tie.Need-same-length-2 Inv-loop μ-loop
-same-length-2 c = c .before .loop .inv .0 .elsewhere .size
+same-length-2 c = unpacked-size _ _ (c .before .loop .inv .0 .elsewhere .size)
 
 returns : tie.Need-returns Inv-loop μ-loop
 returns c =
@@ -171,7 +168,6 @@ fill-row-spec =
     zero-tail-requires
     infinite-requires
     sub-write-pair
-    mul-write-pair
     unreachable-requires
     write-pair-requires
     add-r

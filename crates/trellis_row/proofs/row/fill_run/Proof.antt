@@ -4,14 +4,16 @@ use Rattle.trellis_row.specs.Row.{Ready}
 use Rattle.candidates.specs.Candidates.{inArray}
 use native.Mathlib.Omega.{arith}
 use mathlib.Core.Path.{_≡_}
-use Prim.Native.Nat.{_+_, _-_}
+use Prim.Native.Nat.{_+_, _-_, _*_}
+use Rattle.half_bytes.specs.Packed.{unpacked}
+use Rattle.half_bytes.proofs.Laws.{unpacked-size}
 use Rattle.trellis_row.proofs.row.fill_run.Statement.{statement}
 use Rattle.trellis_row.proofs.row.fill_run.Tie as tie
 
 abbrev Inv-loop : tie.InvT-loop
 Inv-loop levels count first second locals zero next span current₀ choices₀ at least from upto r₀ current choices r =
     let candidates = inArray count levels in
-    Ran (λ book x n. Ready book x candidates next span first second locals zero n) (listed candidates) next span at least from upto r current₀ current choices₀ choices
+    Ran (λ book x n. Ready book x candidates next span first second locals zero n) (listed candidates) next span (2 * at) least from upto r current₀ current (unpacked choices₀) (unpacked choices)
 
 abbrev μ-loop : tie.MeasureT-loop
 μ-loop levels count first second locals zero next span current₀ choices₀ at least from upto r₀ current choices r = upto + 1 - r
@@ -41,7 +43,7 @@ same-length : tie.Need-same-length Inv-loop μ-loop
 same-length c = c .before .loop .inv .size
 
 same-length-2 : tie.Need-same-length-2 Inv-loop μ-loop
-same-length-2 c = c .before .loop .inv .elsewhere .size
+same-length-2 c = unpacked-size _ _ (c .before .loop .inv .elsewhere .size)
 
 returns : tie.Need-returns Inv-loop μ-loop
 returns c =

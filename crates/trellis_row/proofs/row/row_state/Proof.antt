@@ -1,8 +1,9 @@
 use lib.Dec.{lit≤}
 use lib.ListN.{length, length-set}
 use mathlib.Core.Path.{ap, _∙_}
+use Rattle.half_bytes.proofs.Laws.{unpacked-size, kept-none}
 use Rattle.steps.proofs.Listed.{listed-few}
-use Rattle.trellis_row.proofs.Rows.{elsewhere-pair, written-settled, written-dead, nonzero-tail-cost, zero-tail-cost, zero-tail-is, not-below}
+use Rattle.trellis_row.proofs.Rows.{elsewhere-pair, settled-kept, written-settled, written-dead, nonzero-tail-cost, zero-tail-cost, zero-tail-is, not-below}
 use native.Mathlib.Omega.{arith}
 use native.Mathlib.Nat.{le-refl}
 use borrow.Author.Needs.{needs}
@@ -15,14 +16,11 @@ nonzero-tail-requires c κs = search needs
 zero-tail-requires : tie.Need-zero-tail-requires
 zero-tail-requires c κs = search needs
 
-sub-i : tie.Need-sub-i
-sub-i c = search needs
-
-mul-i : tie.Need-mul-i
-mul-i c = search needs
-
 infinite-requires : tie.Need-infinite-requires
 infinite-requires c κs = search needs
+
+sub-write-pair : tie.Need-sub-write-pair
+sub-write-pair c = search needs
 
 unreachable-requires : tie.Need-unreachable-requires
 unreachable-requires c κs = search needs
@@ -53,9 +51,12 @@ returns c =
             written-dead book x _ _ _ _ _ _ _ _ _ _ _ _ _ _ (rest .0) (rest .1 .0) (rest .1 .1) (pair .0) (pair .1)
             (λ p q. R .work .locals _ p q (le-refl _))
             (not-below _ (nonzero-tail-cost (R .work) _) (rw nonzero at (dead .0)))
-            (not-below _ (zero-tail-cost (R .work) _ _) (rw zero at (dead .1))) (none .0) (none .1),
+            (not-below _ (zero-tail-cost (R .work) _ _) (rw zero at (dead .1))) (none .0) (none .1 .0) (kept-none _ (none .1 .1 .0) ∙ none .1 .1 .0) (kept-none _ (none .1 .1 .1) ∙ none .1 .1 .1),
       ),
     )
+
+sub-write-pair-2 : tie.Need-sub-write-pair-2
+sub-write-pair-2 c = search needs
 
 settle-requires : tie.Need-settle-requires
 settle-requires c κs = search needs
@@ -86,7 +87,7 @@ returns-2 c =
             (λ q m. R .work .locals _ 1 q (le-refl _) (lit≤ tt) m)
             (R .zero-at) (rw nonzero (nonzero-tail-cost (R .work) _)) (rw zero (zero-tail-cost (R .work) _ _)) (λ h. tail .0 (R .zero-none h)) in
             written-settled book x _ _ _ _ _ _ _ _ _ _ _ _ _ _ (rest .0) (rest .1 .0) (rest .1 .1) (pair .0) (pair .1)
-            (rw (nonzero, zero) at (states .0)) (rw (nonzero, zero) at (states .1)),
+            (settled-kept (listed-few (R .work .usable)) (rw (nonzero, zero) at (states .0))) (settled-kept (listed-few (R .work .usable)) (rw (nonzero, zero) at (states .1))),
       ),
     )
 
@@ -96,14 +97,14 @@ row-state-spec =
     (tie.spec
     nonzero-tail-requires
     zero-tail-requires
-    sub-i
-    mul-i
     infinite-requires
+    sub-write-pair
     unreachable-requires
     write-pair-requires
     same-length
     same-length-2
     returns
+    sub-write-pair-2
     settle-requires
     write-pair-requires-2
     same-length-3

@@ -1,3 +1,4 @@
+use Rattle.half_bytes.proofs.Laws.{unpacked-size}
 use Rattle.trellis_table.proofs.Turns.{from-first, from-second, after-back, to-first, to-second}
 use native.Mathlib.Nat.{le-refl}
 use Rattle.trellis_table.proofs.Turns.{rowed-start, chosen-more}
@@ -14,11 +15,11 @@ use Rattle.trellis_table.proofs.exchange.take_positions.Statement.{stat
 use Rattle.trellis_table.proofs.exchange.take_positions.Tie as tie
 
 abbrev Inv-loop : tie.InvT-loop
-Inv-loop clusters map configs symbols ready shape settings bias scale scan source inv-qm levels plan past first₀ second₀ choices₀ width step₀ in-first₀ i₀ first second choices step in-first i =
+Inv-loop factored clusters map configs symbols ready shape settings bias scale scan source inv-qm levels plan past first₀ second₀ choices₀ width step₀ in-first₀ i₀ first second choices step in-first i =
     (i ≤ plan .window .length) × (Rowed width (plan .window) (bookOf clusters map configs symbols ready) (blockOf shape settings bias scale scan source inv-qm levels) i first second choices step in-first × Kept first₀ first second₀ second choices₀ choices)
 
 abbrev μ-loop : tie.MeasureT-loop
-μ-loop clusters map configs symbols ready shape settings bias scale scan source inv-qm levels plan past first₀ second₀ choices₀ width step₀ in-first₀ i₀ first second choices step in-first i = i
+μ-loop factored clusters map configs symbols ready shape settings bias scale scan source inv-qm levels plan past first₀ second₀ choices₀ width step₀ in-first₀ i₀ first second choices step in-first i = i
 
 loop-holds : tie.Need-loop-holds Inv-loop μ-loop
 loop-holds c =
@@ -59,7 +60,7 @@ loop-again c =
       omega (arith, inv .0),
       (
         to-second some (inv .1 .0) step,
-        record { first = inv .1 .1 .first; second = step .size ∙ inv .1 .1 .second; choices = step .elsewhere .size ∙ inv .1 .1 .choices },
+        record { first = inv .1 .1 .first; second = step .size ∙ inv .1 .1 .second; choices = unpacked-size _ _ (step .elsewhere .size) ∙ inv .1 .1 .choices },
       ),
     )
 
@@ -94,7 +95,7 @@ loop-again-2 c =
       omega (arith, inv .0),
       (
         to-first some (inv .1 .0) step,
-        record { first = step .size ∙ inv .1 .1 .first; second = inv .1 .1 .second; choices = step .elsewhere .size ∙ inv .1 .1 .choices },
+        record { first = step .size ∙ inv .1 .1 .first; second = inv .1 .1 .second; choices = unpacked-size _ _ (step .elsewhere .size) ∙ inv .1 .1 .choices },
       ),
     )
 

@@ -1,0 +1,2 @@
+-- What an exported search returns and writes.
+pub mod Named

@@ -1,0 +1,2 @@
+-- Which version of the library this is.
+pub mod Version

@@ -1,0 +1,2 @@
+// The public calls on the tokens of a block.
+pub mod coded;

@@ -1,0 +1,2 @@
+-- What the loop over a list leaves.
+pub mod Ran

@@ -1,0 +1,4 @@
+pub mod Outcomes
+pub mod Running
+mod Channels
+pub mod Main

@@ -1,0 +1,2 @@
+-- What the small product answers and leaves, and what that means.
+pub mod Small

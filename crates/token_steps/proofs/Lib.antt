@@ -1,0 +1,2 @@
+mod Splits
+pub mod Walk

@@ -1,0 +1,2 @@
+-- A row that is worked out edge by edge.
+pub mod Edges
