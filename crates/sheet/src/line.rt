@@ -1,6 +1,6 @@
 // A line of the sheet: four columns, printed again with the context as a fifth.
 use crate::column;
-use rdoq::answer::Number;
+use answers::answer::Number;
 ghost use mathlib.Core.Path.{_≡_};
 ghost use Prim.Native.Nat.{_+_, _<_, _≤_};
 ghost use mathlib.Core.Bool.{true, false};
@@ -37,7 +37,7 @@ fn context_of(line: &[u8]) -> Number
     let remaining = column::column_value(line, 6);
     let k = column::column_value(line, 12);
     let prev = column::column_value(line, 18);
-    rdoq::contexts::zero_density_context(remaining, k, covered_blocks, prev)
+    token_calls::contexts::zero_density_context(remaining, k, covered_blocks, prev)
 }
 
 fn outside_char(i: usize) -> u8
