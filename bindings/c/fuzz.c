@@ -1,7 +1,7 @@
 /*
  * fuzz CALLS [SEED]: searches on books and blocks of every kind, right ones and damaged ones, each array right at the edge of a page that can't be touched,
- * on rooms that hold what the call before left. After each call this program looks at what the header promises of it. A fault ends it with a signal; a broken
- * promise is printed with its number and ends it with 1.
+ * on rooms that hold what the call before left: rdoq_block, rdoq_small_block, and rdoq_group on short lists of one block put beside itself. After each call
+ * this program looks at what the header promises of it. A fault ends it with a signal; a broken promise is printed with its number and ends it with 1.
  */
 #define _GNU_SOURCE
 #include <stdio.h>
@@ -183,25 +183,28 @@ static int room_kept(void) {
            !memcmp(rows_before[1], it.row_b, 4 * it.row_b_len);
 }
 
-static uint32_t search(uint32_t which) {
-    float cost = -1.0f;
-    uint32_t count = 12345;
+static float cost;
+static uint32_t count;
+
+/* what every call finds, kept to be compared with what it leaves */
+static void keep(void) {
+    cost = -1.0f;
+    count = 12345;
     memcpy(levels_before, it.levels, 4 * it.levels_len);
     memcpy(choices_before, it.choices, it.choices_len);
     memcpy(rows_before[0], it.row_a, 4 * it.row_a_len);
     memcpy(rows_before[1], it.row_b, 4 * it.row_b_len);
-    uint32_t code = rdoq_block(which, it.clusters, it.map, it.map_len, it.configs, it.configs_len, it.symbols, it.symbols_len, it.ready,
-                               it.ready_len, it.cx, it.cy, it.strategy, it.channel, it.high, it.predicted, it.weight, it.lambda, it.penalty,
-                               it.distance, it.half_width, it.one, it.numerator, it.scale, it.scan, it.scan_len, it.source,
-                               it.source_len, it.inverse, it.inverse_len, it.levels, it.levels_len, it.choices, it.choices_len, it.row_a,
-                               it.row_a_len, it.row_b, it.row_b_len, &cost, &count);
-    int in_range = it.half_width >= 1 && it.half_width <= RDOQ_WIDEST;
-    hold(code <= 18 || code == 26, "a code that the header does not name");
-    hold(code != 26 || !in_range, "26 for a half-width in range");
-    hold(in_range || (code && (code < 11 || code > 16)), "a half-width out of range that passed");
+}
+
+static void hold_room(uint32_t which, uint32_t code) {
+    if (which == RDOQ_GREEDY || (code && code != 15 && code != 16)) hold(room_kept(), "a room that changed");
+    else hold(cleared(), "a room that was not cleared");
+}
+
+/* what a call for one block promises, whichever product it is; then the block is as it was */
+static void judge(uint32_t which, uint32_t code) {
     hold(code != 15 || which == RDOQ_TRELLIS || which == RDOQ_UNFACTORED, "15 from another search");
     hold(code != 16 || which == RDOQ_BEAM, "16 from another search");
-    hold((code == 17) == (which > RDOQ_UNFACTORED), "17 for a search, or none where there is none");
     if (code) {
         hold(!memcmp(levels_before, it.levels, 4 * it.levels_len), "a refused block that keeps not every level");
         hold(cost == -1.0f && count == 12345, "a refusal that writes cost or count");
@@ -215,15 +218,104 @@ static uint32_t search(uint32_t which) {
         hold(count == found, "a count that is not the levels'");
         hold(which == RDOQ_GREEDY ? cost == -1.0f : cost >= 0.0f && cost - cost == 0.0f, "a cost that is none");
     }
-    if (which == RDOQ_GREEDY || (code && code != 15 && code != 16)) hold(room_kept(), "a room that changed");
-    else hold(cleared(), "a room that was not cleared");
+    hold_room(which, code);
+}
+
+static uint32_t searched(uint32_t which, uint8_t predicted) {
+    keep();
+    return rdoq_block(which, it.clusters, it.map, it.map_len, it.configs, it.configs_len, it.symbols, it.symbols_len, it.ready,
+                      it.ready_len, it.cx, it.cy, it.strategy, it.channel, it.high, predicted, it.weight, it.lambda, it.penalty,
+                      it.distance, it.half_width, it.one, it.numerator, it.scale, it.scan, it.scan_len, it.source, it.source_len,
+                      it.inverse, it.inverse_len, it.levels, it.levels_len, it.choices, it.choices_len, it.row_a, it.row_a_len,
+                      it.row_b, it.row_b_len, &cost, &count);
+}
+
+static uint32_t search(uint32_t which) {
+    uint32_t code = searched(which, it.predicted);
+    int in_range = it.half_width >= 1 && it.half_width <= RDOQ_WIDEST;
+    hold(code <= 18 || code == 26, "a code that the header does not name");
+    hold(code != 26 || !in_range, "26 for a half-width in range");
+    hold(in_range || (code && (code < 11 || code > 16)), "a half-width out of range that passed");
+    hold((code == 17) == (which > RDOQ_UNFACTORED), "17 for a search, or none where there is none");
+    judge(which, code);
     memcpy(it.levels, levels_before, 4 * it.levels_len);
+    return code;
+}
+
+static uint32_t small(uint32_t which) {
+    int larger = (uint64_t)it.cx * it.cy > 2;
+    keep();
+    uint32_t code = rdoq_small_block(which, it.clusters, it.map, it.map_len, it.configs, it.configs_len, it.symbols, it.symbols_len, it.ready,
+                                     it.ready_len, it.cx, it.cy, it.strategy, it.channel, it.high, it.predicted, it.weight, it.lambda,
+                                     it.penalty, it.distance, it.one, it.numerator, it.scale, it.scan, it.scan_len, it.source,
+                                     it.source_len, it.inverse, it.inverse_len, it.levels, it.levels_len, it.choices, it.choices_len,
+                                     it.row_a, it.row_a_len, it.row_b, it.row_b_len, &cost, &count);
+    hold(code <= 18 || code == 32, "a code of the small product that the header does not name");
+    hold((code == 32) == larger, "32 for a small block, or none for a larger one");
+    hold(larger || (code == 17) == (which > RDOQ_UNFACTORED), "17 for a search of the small product, or none where there is none");
+    judge(which, code);
+    if (!code) {
+        size_t c = it.cx * (size_t)it.cy;
+        for (size_t k = c + RDOQ_SMALL_WINDOW; k < it.scan_len; k++)
+            hold(it.levels[it.scan[k]] == levels_before[it.scan[k]], "a level past the small window that changed");
+    }
+    memcpy(it.levels, levels_before, 4 * it.levels_len);
+    return code;
+}
+
+static guarded g_blocks, g_settings, g_scans, g_sources, g_inverses, g_list;
+static int32_t alone[LARGEST];
+
+/* the block n times in a row, numbers and all, each array right at its edge */
+static void *in_a_row(guarded room, const void *numbers, size_t bytes, uint32_t n) {
+    unsigned char *at = lent(room, n * bytes);
+    for (uint32_t i = 0; i < n; i++) memcpy(at + i * bytes, numbers, bytes);
+    return at;
+}
+
+/* A list of the block beside itself. Its first block has no neighbours, for which the standard predicts 32: what the list does to it is what rdoq_block does. */
+static uint32_t group(uint32_t which) {
+    size_t len = it.levels_len;
+    uint32_t n = 1 + below(3), settled = 12345;
+    while (n > 1 && (n * len > LARGEST || n * (uint64_t)it.cx > 32)) n--;
+    uint32_t code_alone = searched(which, 32);
+    memcpy(alone, it.levels, 4 * len);
+    memcpy(it.levels, levels_before, 4 * len);
+    size_t blocks_len = RDOQ_GROUP_WORDS * n, settings_len = RDOQ_GROUP_FLOATS * n;
+    uint32_t *blocks = lent(g_blocks, 4 * blocks_len);
+    float *settings = lent(g_settings, 4 * settings_len);
+    int damaged = once_in(20);
+    for (uint32_t i = 0; i < n; i++) {
+        const uint32_t words[RDOQ_GROUP_WORDS] = {i * it.cx, 0, it.cx, it.cy, it.strategy, it.channel, it.high, it.half_width};
+        const float floats[RDOQ_GROUP_FLOATS] = {it.weight, it.lambda, it.penalty, it.distance, it.one, it.numerator, it.scale};
+        memcpy(blocks + RDOQ_GROUP_WORDS * i, words, sizeof words);
+        memcpy(settings + RDOQ_GROUP_FLOATS * i, floats, sizeof floats);
+    }
+    if (damaged) blocks[below((uint32_t)blocks_len)] = once_in(2) ? random_word() : below(34);
+    keep();
+    int32_t *levels = in_a_row(g_list, it.levels, 4 * len, n);
+    uint32_t code = rdoq_group(which, it.clusters, it.map, it.map_len, it.configs, it.configs_len, it.symbols, it.symbols_len, it.ready,
+                               it.ready_len, blocks, blocks_len, settings, settings_len, in_a_row(g_scans, it.scan, 4 * it.scan_len, n),
+                               n * it.scan_len, in_a_row(g_sources, it.source, 4 * it.source_len, n), n * it.source_len,
+                               in_a_row(g_inverses, it.inverse, 4 * it.inverse_len, n), n * it.inverse_len, levels, n * len, it.choices,
+                               it.choices_len, it.row_a, it.row_a_len, it.row_b, it.row_b_len, &settled);
+    hold(code <= 18 || code == 26 || (code >= 29 && code <= 31), "a code of a list that the header does not name");
+    hold((code == 17) == (which > RDOQ_UNFACTORED), "17 for a list's search, or none where there is none");
+    hold(settled <= n && (code == 0) == (settled == n), "a number of settled blocks that is none");
+    /* with other lengths the blocks of the list are not where this program has put them */
+    uint64_t right = 64ull * it.cx * it.cy;
+    int exact = len == right && it.scan_len == right && it.source_len == right && it.inverse_len == right && !damaged;
+    for (uint32_t i = exact ? settled : 0; i < n && (exact || !settled); i++)
+        hold(!memcmp(levels + i * len, levels_before, 4 * len), "a block past the settled ones that keeps not every level");
+    if (exact && settled) hold(!code_alone && !memcmp(levels, alone, 4 * len), "a first block that is not settled as it is alone");
+    if (exact && !code_alone) hold(settled > 0, "a block that is settled alone, and not first in a list");
+    if (!settled) hold_room(which, code);
     return code;
 }
 
 int main(int argc, char **argv) {
     unsigned long calls = argc > 1 ? strtoul(argv[1], NULL, 10) : 20000, seed = argc > 2 ? strtoul(argv[2], NULL, 10) : 1;
-    unsigned long codes[27] = {0};
+    unsigned long codes[33] = {0};
     state = 0x9e3779b97f4a7c15u ^ (seed * 0xff51afd7ed558ccdu);
     g_map = make(RDOQ_CONTEXTS);
     g_configs = make(3 * CLUSTERS);
@@ -236,10 +328,17 @@ int main(int argc, char **argv) {
     g_choices = make(CHOICES);
     g_row_a = make(4 * ROW);
     g_row_b = make(4 * ROW);
+    g_blocks = make(4 * 3 * RDOQ_GROUP_WORDS);
+    g_settings = make(4 * 3 * RDOQ_GROUP_FLOATS);
+    g_scans = make(4 * 3 * LARGEST);
+    g_sources = make(4 * 3 * LARGEST);
+    g_inverses = make(4 * 3 * LARGEST);
+    g_list = make(4 * LARGEST);
     for (unsigned long i = 0; i < calls; i++) {
         if (i % 16 == 0) book();
         if (i % 4 == 0) block();
-        uint32_t code = search(i % 4 == 3 && once_in(8) ? 4 + below(1000) : (uint32_t)(i % 4));
+        uint32_t which = i % 4 == 3 && once_in(8) ? 4 + below(1000) : (uint32_t)(i % 4);
+        uint32_t code = once_in(8) ? group(which) : once_in(4) ? small(which) : search(which);
         if (broken) {
             printf("fuzz: call %lu of seed %lu: %s (code %u)\n", i, seed, broken, (unsigned)code);
             return 1;
@@ -247,7 +346,7 @@ int main(int argc, char **argv) {
         codes[code]++;
     }
     printf("fuzz: %lu calls of seed %lu, no fault; answered %lu; refused", calls, seed, codes[0]);
-    for (int i = 1; i < 27; i++) if (codes[i]) printf(" %d: %lu", i, codes[i]);
+    for (int i = 1; i < 33; i++) if (codes[i]) printf(" %d: %lu", i, codes[i]);
     puts("");
     return 0;
 }
