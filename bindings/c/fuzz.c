@@ -183,6 +183,28 @@ static int room_kept(void) {
            !memcmp(rows_before[1], it.row_b, 4 * it.row_b_len);
 }
 
+/* What the levels cost as they stand; `code` and `cost` are the trellis's on the same block. */
+static void input(uint32_t code, float cost) {
+    float whole = -1.0f;
+    uint32_t count = 12345;
+    uint32_t own = rdoq_input_cost(it.clusters, it.map, it.map_len, it.configs, it.configs_len, it.symbols, it.symbols_len, it.ready,
+                                   it.ready_len, it.cx, it.cy, it.strategy, it.channel, it.high, it.predicted, it.weight, it.lambda,
+                                   it.penalty, it.distance, it.one, it.numerator, it.scale, it.scan, it.scan_len, it.source,
+                                   it.source_len, it.inverse, it.inverse_len, it.levels, it.levels_len, &whole, &count);
+    hold(own <= 13 || own == 18, "a code of the input's cost that the header does not name");
+    hold(own == code || code == 26 || ((code == 0 || code == 14 || code == 15) && own == 0), "other checks of the input's cost");
+    if (own) {
+        hold(whole == -1.0f && count == 12345, "a refused cost that is written");
+    } else {
+        size_t c = it.cx * (size_t)it.cy, found = 0;
+        for (size_t k = c; k < it.scan_len; k++) found += it.levels[it.scan[k]] != 0;
+        hold(count == found, "a count of the input that is not its levels'");
+        hold(whole >= 0.0f, "a cost of the input that is none");
+        hold(code || cost <= whole, "a trellis that costs more than its input");
+    }
+    hold(!memcmp(levels_before, it.levels, 4 * it.levels_len), "a cost of the input that changed a level");
+}
+
 static uint32_t search(uint32_t which) {
     float cost = -1.0f;
     uint32_t count = 12345;
@@ -218,6 +240,7 @@ static uint32_t search(uint32_t which) {
     if (which == RDOQ_GREEDY || (code && code != 15 && code != 16)) hold(room_kept(), "a room that changed");
     else hold(cleared(), "a room that was not cleared");
     memcpy(it.levels, levels_before, 4 * it.levels_len);
+    if (which == RDOQ_TRELLIS) input(code, cost);
     return code;
 }
 
