@@ -1,9 +1,10 @@
 /*
  * The level search of a JPEG XL encoder, for one block and for a whole group of blocks.
  *
- * The functions are those of crates/c_leaves, c_book, c_search, c_small, c_group, c_tokens, c_tally, c_store and c_version, whose
- * contracts are proved. Link librdoq_c.a or librdoq_c.so: `make library` writes the first, `make dist` and `make install` have both.
- * They need memset and memcpy, and nothing else. x86-64 Linux only. rdoq_easy.h has the same calls over structs, and refusals in words.
+ * The functions are those of crates/c_leaves, c_book, c_search, c_input, c_small, c_group, c_tokens, c_tally, c_store and
+ * c_version, whose contracts are proved. Link librdoq_c.a or librdoq_c.so: `make library` writes the first, `make dist` and
+ * `make install` have both. They need memset and memcpy, and nothing else. x86-64 Linux only. rdoq_easy.h has the same calls over
+ * structs, and refusals in words.
  *
  * Every call
  *   - returns a code: 0 where it answers, else the number of the refusal (rdoq_refusal, below). rdoq_version alone returns what
@@ -71,6 +72,7 @@ extern "C" {
  *                                                     26, 11 to 14; then 15 (trellis, unfactored too) or 16 (beam).
  *                                                     Greedy asks for no room
  *   rdoq_small_block                                  32; then as rdoq_block, without 26
+ *   rdoq_input_cost                                   1 to 9, 18, 10 to 13
  *   rdoq_group                                        from C 17 where no search has the number; 1 to 6; 17 where the
  *                                                     list is no whole blocks; then over the whole list each 7, 9 (the
  *                                                     channel), 29, 30, 31; then block by block 8, 9 (the strategy) and
@@ -308,6 +310,27 @@ uint32_t rdoq_block(uint32_t search, uint32_t clusters, const uint8_t *map, size
                     const uint32_t *scan, size_t scan_len, const float *source, size_t source_len, const float *inv_qm,
                     size_t inv_qm_len, int32_t *levels, size_t levels_len, uint8_t *choices, size_t choices_len, float *row_a,
                     size_t row_a_len, float *row_b, size_t row_b_len, float *cost, uint32_t *count);
+
+/*
+ * Writes what the levels of a block cost as they stand, by the definition of the searches' costs: called before a search it says what
+ * the input costs, and the search's cost taken from it is what was saved. The arguments are those of rdoq_block; there is no search, no
+ * half-width and no room, and nothing but cost and count is written.
+ *
+ *   cost            the cost of the levels from scan position c on: +infinity where a level or the count has no word (that is no
+ *                   refusal), never NaN, never below 0 (proved). Where the trellis answers, of whatever half-width, its cost is at most
+ *                   this one (proved)
+ *   count           the count of nonzero levels from scan position c on
+ *
+ * The levels that beam or trellis wrote, handed in, cost what was answered, unless a level was restored (a nonzero level where there was
+ * 0) and penalty is not 1: here the levels are the input, so none is restored, and none is charged at lambda * penalty.
+ * Returns 0, or a refusal and writes nothing.
+ */
+uint32_t rdoq_input_cost(uint32_t clusters, const uint8_t *map, size_t map_len, const uint8_t *configs, size_t configs_len,
+                         const float *symbols, size_t symbols_len, const float *ready, size_t ready_len, uint32_t cx, uint32_t cy,
+                         uint8_t strategy, uint8_t channel, bool qf_hi, uint8_t predicted, float channel_weight, float lambda,
+                         float penalty, float distance, float one, float numerator, float scale, const uint32_t *scan,
+                         size_t scan_len, const float *source, size_t source_len, const float *inv_qm, size_t inv_qm_len,
+                         const int32_t *levels, size_t levels_len, float *cost, uint32_t *count);
 
 /*
  * Re-picks the levels of a group's blocks, in place and in the order of a list. This is the call that an encoder should use: the book

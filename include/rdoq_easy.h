@@ -360,6 +360,19 @@ RDOQ_INLINE uint32_t rdoq_search_block(uint32_t search, const rdoq_book *book, c
                       &answer->count);
 }
 
+/* What the levels of a block cost as they stand, and their count (rdoq_input_cost). The half-width is not read. */
+RDOQ_INLINE uint32_t rdoq_cost_of_input(const rdoq_book *book, const rdoq_block_data *block, const int32_t *levels,
+                                        size_t levels_len, rdoq_answer *answer) {
+    const rdoq_shape *shape = &block->shape;
+    const rdoq_settings *settings = &block->settings;
+    return rdoq_input_cost(book->clusters, book->map, book->map_len, book->configs, book->configs_len, book->symbols,
+                           book->symbols_len, book->ready, book->ready_len, shape->cx, shape->cy, shape->strategy, shape->channel,
+                           shape->qf_hi, shape->predicted, settings->channel_weight, settings->lambda, settings->penalty,
+                           settings->distance, block->bias.one, block->bias.numerator, block->scale, block->scan, block->scan_len,
+                           block->source, block->source_len, block->inv_qm, block->inv_qm_len, levels, levels_len, &answer->cost,
+                           &answer->count);
+}
+
 /*
  * A group's list: eight words and seven floats a block (rdoq_group_put writes them), and the blocks' numbers one after the other, 64 for
  * each covered block.

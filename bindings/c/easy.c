@@ -88,6 +88,32 @@ static uint32_t both(uint32_t search, const rdoq_book *book, const rdoq_block_da
     return code;
 }
 
+/* What levels cost as they stand, by the struct and by the plain call. */
+static uint32_t both_inputs(const rdoq_book *book, const rdoq_block_data *b, const int32_t *levels, size_t n, rdoq_answer *answer) {
+    rdoq_answer other = {-1.0f, 77};
+    uint32_t code, due;
+    answer->cost = -1.0f;
+    answer->count = 77;
+    code = rdoq_cost_of_input(book, b, levels, n, answer);
+    due = rdoq_input_cost(CLUSTERS, map, sizeof map, configs, sizeof configs, symbols, RDOQ_SYMBOLS * CLUSTERS, ready,
+                          RDOQ_READY * CLUSTERS, b->shape.cx, b->shape.cy, b->shape.strategy, b->shape.channel, true, 5, 1.5f, 0.07f,
+                          1.25f, 2.5f, b->bias.one, RDOQ_BIAS_NUMERATOR, 0.75f, scan, b->scan_len, source, b->source_len, inv_qm,
+                          b->inv_qm_len, levels, n, &other.cost, &other.count);
+    expect("a cost by struct returns what the call returns", code == due);
+    expect("it answers the same", memcmp(answer, &other, sizeof other) == 0);
+    return code;
+}
+
+/* The input's cost, and that of the levels that the trellis wrote last. */
+static void inputs(const rdoq_book *book, const rdoq_block_data *b) {
+    rdoq_answer before, after;
+    expect("the input is priced", both_inputs(book, b, start, b->scan_len, &before) == 0);
+    expect("so is what was written", both_inputs(book, b, by_trellis, b->scan_len, &after) == 0);
+    expect("and costs no more", after.cost <= before.cost && after.cost > 0.0f);
+    expect("a list too short", both_inputs(book, b, start, b->scan_len - 1, &after) == RDOQ_REFUSAL_BLOCK_LENGTH);
+    expect("writes nothing", after.cost == -1.0f && after.count == 77);
+}
+
 static void searches(const rdoq_book *book) {
     static const struct {
         uint32_t cx, cy;
@@ -110,6 +136,7 @@ static void searches(const rdoq_book *book) {
             memcpy(by_trellis, by_struct, sizeof by_trellis);
             expect("the unfactored walk answers", both(RDOQ_UNFACTORED, book, &b, n, bytes, floats) == 0);
             expect("it writes the trellis's levels", memcmp(by_struct, by_trellis, sizeof by_trellis) == 0);
+            inputs(book, &b);
             /* refusals go through as they are */
             expect("levels too short", both(RDOQ_BEAM, book, &b, n - 1, RDOQ_BEAM_CHOICES * w, 0) == RDOQ_REFUSAL_BLOCK_LENGTH);
             expect("no such search", both(RDOQ_UNFACTORED + 1, book, &b, n, bytes, floats) == RDOQ_REFUSAL_DOMAIN);

@@ -1,7 +1,7 @@
 /*
  * fuzz CALLS [SEED]: searches on books and blocks of every kind, right ones and damaged ones, each array right at the edge of a page that can't be touched,
- * on rooms that hold what the call before left: rdoq_block, rdoq_small_block, and rdoq_group on short lists of one block put beside itself. After each call
- * this program looks at what the header promises of it. A fault ends it with a signal; a broken promise is printed with its number and ends it with 1.
+ * on rooms that hold what the call before left: rdoq_block, rdoq_input_cost, rdoq_small_block, and rdoq_group on short lists of one block put beside itself.
+ * After each call this program looks at what the header promises of it. A fault ends it with a signal; a broken promise is printed with its number and ends it with 1.
  */
 #define _GNU_SOURCE
 #include <stdio.h>
@@ -230,6 +230,28 @@ static uint32_t searched(uint32_t which, uint8_t predicted) {
                       it.row_b, it.row_b_len, &cost, &count);
 }
 
+/* What the levels cost as they stand; `code` is the trellis's on the same block, and `cost` what it answered. */
+static void input(uint32_t code) {
+    float whole = -1.0f;
+    uint32_t nonzero = 12345;
+    uint32_t own = rdoq_input_cost(it.clusters, it.map, it.map_len, it.configs, it.configs_len, it.symbols, it.symbols_len, it.ready,
+                                   it.ready_len, it.cx, it.cy, it.strategy, it.channel, it.high, it.predicted, it.weight, it.lambda,
+                                   it.penalty, it.distance, it.one, it.numerator, it.scale, it.scan, it.scan_len, it.source,
+                                   it.source_len, it.inverse, it.inverse_len, it.levels, it.levels_len, &whole, &nonzero);
+    hold(own <= 13 || own == 18, "a code of the input's cost that the header does not name");
+    hold(own == code || code == 26 || ((code == 0 || code == 14 || code == 15) && own == 0), "other checks of the input's cost");
+    if (own) {
+        hold(whole == -1.0f && nonzero == 12345, "a refused cost that is written");
+    } else {
+        size_t c = it.cx * (size_t)it.cy, found = 0;
+        for (size_t k = c; k < it.scan_len; k++) found += it.levels[it.scan[k]] != 0;
+        hold(nonzero == found, "a count of the input that is not its levels'");
+        hold(whole >= 0.0f, "a cost of the input that is none");
+        hold(code || cost <= whole, "a trellis that costs more than its input");
+    }
+    hold(!memcmp(levels_before, it.levels, 4 * it.levels_len), "a cost of the input that changed a level");
+}
+
 static uint32_t search(uint32_t which) {
     uint32_t code = searched(which, it.predicted);
     int in_range = it.half_width >= 1 && it.half_width <= RDOQ_WIDEST;
@@ -239,6 +261,7 @@ static uint32_t search(uint32_t which) {
     hold((code == 17) == (which > RDOQ_UNFACTORED), "17 for a search, or none where there is none");
     judge(which, code);
     memcpy(it.levels, levels_before, 4 * it.levels_len);
+    if (which == RDOQ_TRELLIS) input(code);
     return code;
 }
 

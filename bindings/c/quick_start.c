@@ -34,9 +34,12 @@ int main(void) {
         RDOQ_LIST(scan), RDOQ_LIST(source), RDOQ_LIST(inv_qm),
     };
     block.settings.lambda = 0.1f;
-    rdoq_answer answer;
-    if (code == 0) code = rdoq_search_block(RDOQ_TRELLIS, &book, &block, RDOQ_LIST(levels), &room, &answer);
-    if (code == 0) printf("%u nonzero levels, cost %g\n", (unsigned)answer.count, answer.cost);
+    rdoq_answer before, after;
+    if (code == 0) code = rdoq_cost_of_input(&book, &block, RDOQ_LIST(levels), &before);
+    if (code == 0) code = rdoq_search_block(RDOQ_TRELLIS, &book, &block, RDOQ_LIST(levels), &room, &after);
+    if (code == 0)
+        printf("%u nonzero levels, cost %.4f; %.4f before, %.4f saved\n", (unsigned)after.count, after.cost, before.cost,
+               before.cost - after.cost);
     else printf("refusal %u: %s\n", (unsigned)code, rdoq_refusal_text(code));
     return (int)code;
 }

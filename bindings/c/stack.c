@@ -44,6 +44,19 @@ static void *call(void *argument) {
     return NULL;
 }
 
+static uint32_t input_codes[11];
+
+static void *input_call(void *argument) {
+    int size = *(int *)argument;
+    size_t n = 64u * sizes[size].cx * sizes[size].cy;
+    float cost;
+    uint32_t count;
+    input_codes[size] = rdoq_input_cost(1, map, sizeof map, configs, sizeof configs, symbols, RDOQ_SYMBOLS, ready, RDOQ_READY,
+                                        sizes[size].cx, sizes[size].cy, sizes[size].strategy, 1, false, 4, 1.0f, 0.1f, 1.0f, 1.0f,
+                                        0.9f, RDOQ_BIAS_NUMERATOR, 1.0f, scan, n, source, n, inv_qm, n, levels, n, &cost, &count);
+    return NULL;
+}
+
 static uint32_t small_codes[4][2];
 
 /* the small product, on the two sizes that it takes */
@@ -130,6 +143,11 @@ int main(void) {
             if (used > most) most = used;
         }
     }
+    for (int size = 0; size < 11; size++) {
+        size_t used = run(input_call, size, WHOLE) - empty;
+        if (input_codes[size]) return 2;
+        if (used > most) most = used;
+    }
     for (int search = 0; search < 4; search++) {
         for (int size = 0; size < 2; size++) {
             size_t used = run(small_call, 16 * search + size, WHOLE) - empty;
@@ -146,6 +164,7 @@ int main(void) {
     if (most > RDOQ_STACK_BYTES) return 1;
     /* a stack smaller than this faults */
     run(ans, 0, RDOQ_STACK_BYTES + MARGIN);
+    for (int size = 0; size < 11; size++) run(input_call, size, RDOQ_STACK_BYTES + MARGIN);
     for (int what = 0; what < 64; what++) {
         if (what % 16 < 11) run(call, what, RDOQ_STACK_BYTES + MARGIN);
         if (what % 16 < 2) run(small_call, what, RDOQ_STACK_BYTES + MARGIN);

@@ -8,6 +8,7 @@ mod damage;
 mod data;
 mod exact;
 mod files;
+mod input;
 mod judge;
 mod plain;
 mod port;
@@ -22,7 +23,7 @@ mod widths;
 use data::{Block, BlockFile, Book, Reply, Search, HALF_WIDTH, SEARCHES};
 use judge::{due, width_asked, Due, Original, Source};
 use random::Random;
-use report::Tally;
+use report::{Inputs, Tally};
 use stand_ins::*;
 use std::sync::atomic::{AtomicU64, Ordering};
 
@@ -150,20 +151,24 @@ fn batch(options: &Options, class: usize, from: u64, to: u64, said: &AtomicU64) 
     let mut file = BlockFile::new();
     let mut all: Vec<Made> = Vec::new();
     let mut original = Original::new();
-    let mut latest: Option<(u64, Book)> = None;
+    let mut latest: Option<(u64, Book, rdoq::Book)> = None;
     for index in from..to {
         let (book, mut block) = made(options.seed, class, index);
         if options.heavy {
             blocks::weigh_down(&mut Random::of(&[options.seed, class as u64, index, 4]), &mut block);
         }
         let name = index / per_book(class);
-        if latest.as_ref().is_none_or(|(at, _)| *at != name) {
+        if latest.as_ref().is_none_or(|(at, ..)| *at != name) {
             file.book(&book);
             original.take(&book);
-            latest = Some((name, book));
+            let lent = input::lent(&book);
+            latest = Some((name, book, lent));
         }
-        let book = &latest.as_ref().unwrap().1;
+        let (_, book, lent) = latest.as_ref().unwrap();
         file.block(&block);
+        if let Some(fault) = input::hold(&mut tally.inputs, book, lent, &block) {
+            println!("DIFFERENCE: seed {}, class {class}, block {index}\n  {fault}", options.seed);
+        }
         let due = SEARCHES.map(|search| due(&mut original, search, book, &block)).into();
         all.push(Made { index, book: name, block, due });
     }
@@ -308,18 +313,20 @@ fn main() -> std::process::ExitCode {
         None => println!("the port: not run; the Rust and the plain definitions alone are compared; seed {}", options.seed),
     }
     println!("{}", report::HEADER);
-    let mut differences = 0;
+    let (mut differences, mut inputs) = (0, Inputs::default());
     for &class in &options.classes {
         let tally = judge_class(&options, class, &said);
         let name = if class == 0 { "damaged".to_string() } else { class.to_string() };
         print!("{}", report::row(&name, &tally, &options.without));
-        differences += tally.searches.iter().map(|counts| counts.differences).sum::<u64>();
+        differences += tally.searches.iter().map(|counts| counts.differences).sum::<u64>() + tally.inputs.differences;
+        inputs.add(&tally.inputs);
     }
     if let (Some(program), None) = (&options.port, options.only) {
         differences += files::compare_unreadable(program, options.seed, options.files);
     }
     sound &= differences == 0;
     println!("{}", report::LEGEND);
+    println!("input_cost: {} blocks as they stand, {} of finite cost, {} differ", inputs.asked, inputs.finite, inputs.differences);
     println!("{differences} differences; {:.1} s", start.elapsed().as_secs_f32());
     u8::from(!sound).into()
 }

@@ -36,15 +36,33 @@ pub struct Counts {
     pub no_symbol: u64,
 }
 
+/// Blocks whose cost as they stand was asked: how many, those of finite cost, and those that differ.
+#[derive(Default, Clone)]
+pub struct Inputs {
+    pub asked: u64,
+    pub finite: u64,
+    pub differences: u64,
+}
+
+impl Inputs {
+    pub fn add(&mut self, other: &Inputs) {
+        self.asked += other.asked;
+        self.finite += other.finite;
+        self.differences += other.differences;
+    }
+}
+
 #[derive(Default, Clone)]
 pub struct Tally {
     pub blocks: u64,
     pub searches: [Counts; SEARCHES.len()],
+    pub inputs: Inputs,
 }
 
 impl Tally {
     pub fn add(&mut self, other: &Tally) {
         self.blocks += other.blocks;
+        self.inputs.add(&other.inputs);
         for (mine, theirs) in self.searches.iter_mut().zip(&other.searches) {
             mine.compared += theirs.compared;
             mine.equal += theirs.equal;

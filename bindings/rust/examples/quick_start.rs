@@ -1,4 +1,4 @@
-use rdoq::{rdoq_block, Bias, Block, BookBuilder, Refusal, Room, Search, Settings, Shape, CONTEXTS, SYMBOLS};
+use rdoq::{input_cost, rdoq_block, Bias, Block, BookBuilder, Refusal, Room, Search, Settings, Shape, CONTEXTS, SYMBOLS};
 
 fn main() -> Result<(), Refusal> {
     // once for each entropy code: a price for every symbol, here of one cluster with split 4,2,0
@@ -20,8 +20,12 @@ fn main() -> Result<(), Refusal> {
         source: &source,
         inv_qm: &[1.0; 64],
     };
+    let before = input_cost(&book, &block, &levels)?.cost;
     match rdoq_block(Search::Trellis, &book, &block, &mut levels, &mut room) {
-        Ok(answer) => println!("{} nonzero levels, cost {:?}", answer.count, answer.cost),
+        Ok(answer) => {
+            let after = answer.cost.unwrap_or(before); // greedy answers none
+            println!("{} nonzero levels, cost {after:.4}; {before:.4} before, {:.4} saved", answer.count, before - after);
+        }
         Err(refusal) => println!("{refusal}; every level is as it was"),
     }
     Ok(())

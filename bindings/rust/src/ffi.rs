@@ -36,6 +36,13 @@ extern "C" {
         choices: *mut u8, choices_len: usize, row_a: *mut c_float, row_a_len: usize, row_b: *mut c_float, row_b_len: usize,
         cost: *mut c_float, count: *mut u32,
     ) -> u32;
+    pub fn rdoq_input_cost(
+        clusters: u32, map: *const u8, map_len: usize, configs: *const u8, configs_len: usize, symbols: *const c_float,
+        symbols_len: usize, ready: *const c_float, ready_len: usize, cx: u32, cy: u32, strategy: u8, channel: u8, qf_hi: bool,
+        predicted: u8, channel_weight: c_float, lambda: c_float, penalty: c_float, distance: c_float, one: c_float,
+        numerator: c_float, scale: c_float, scan: *const u32, scan_len: usize, source: *const c_float, source_len: usize,
+        inv_qm: *const c_float, inv_qm_len: usize, levels: *const i32, levels_len: usize, cost: *mut c_float, count: *mut u32,
+    ) -> u32;
     pub fn rdoq_small_block(
         search: u32, clusters: u32, map: *const u8, map_len: usize, configs: *const u8, configs_len: usize,
         symbols: *const c_float, symbols_len: usize, ready: *const c_float, ready_len: usize, cx: u32, cy: u32, strategy: u8,

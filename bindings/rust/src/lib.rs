@@ -3,7 +3,8 @@
 //!
 //! The work is done by a library in Rattle, a Rust-like language in which every function is proved to meet its contract; this
 //! crate is a safe wrapper of its C interface. An encoder keeps its rate control and its bit writing, builds a [`Book`] for its
-//! entropy code, and calls [`rdoq_group`] for the blocks of a group, or [`rdoq_block`] for one. [`small`] has the searches for blocks of one or two covered blocks over
+//! entropy code, and calls [`rdoq_group`] for the blocks of a group, or [`rdoq_block`] for one. [`input_cost`] says what a block cost before,
+//! and so what was saved. [`small`] has the searches for blocks of one or two covered blocks over
 //! a shorter window, in 672 bytes of room.
 //!
 //! ```
@@ -109,6 +110,7 @@ extern crate std;
 mod book;
 mod ffi;
 mod group;
+mod input;
 mod leaves;
 mod refusal;
 mod search;
@@ -120,6 +122,7 @@ mod tokens;
 
 pub use book::{Book, BookBuilder, PrefixCode, Pricing, CONTEXTS, READY, SYMBOLS};
 pub use group::{rdoq_group, GroupBlock, Stopped};
+pub use input::{input_cost, InputCost};
 pub use leaves::{
     candidates, chroma_weight, distortion_weight, fine_block_context, fine_non_zero_context, fine_zero_density_contexts_offset,
     lambda, level, pack_signed, uint_encode_with_config, window_len, zero_density_context, zero_density_context_8x8, Config, Split,

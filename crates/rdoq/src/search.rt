@@ -3,6 +3,7 @@
 // what can't be used is refused by number, and a refused block keeps every level. Each call's contract stands over its code, in the crate named here.
 pub use beam::rdoq_block_beam;
 pub use greedy::rdoq_block_greedy;
+pub use input_cost::rdoq_input_cost;
 pub use searches::Search;
 pub use searches::rdoq_block;
 pub use trellis::rdoq_block_banded;

@@ -1,0 +1,2 @@
+-- What the exported call returns and writes.
+pub mod Input

@@ -1,0 +1,3 @@
+mod Adding
+mod Turns
+mod Meaning
