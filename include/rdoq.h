@@ -321,8 +321,9 @@ uint32_t rdoq_block(uint32_t search, uint32_t clusters, const uint8_t *map, size
  *                   this one (proved)
  *   count           the count of nonzero levels from scan position c on
  *
- * The levels that beam or trellis wrote, handed in, cost what was answered, unless a level was restored (a nonzero level where there was
- * 0) and penalty is not 1: here the levels are the input, so none is restored, and none is charged at lambda * penalty.
+ * The levels that beam or trellis wrote, handed in, cost what was answered (of the trellis proved), unless a level was restored (a
+ * nonzero level where there was 0) and penalty is not 1: here the levels are the input, so none is restored, and none is charged at
+ * lambda * penalty. A level of 32,768, which a search may write, gets 12.
  * Returns 0, or a refusal and writes nothing.
  */
 uint32_t rdoq_input_cost(uint32_t clusters, const uint8_t *map, size_t map_len, const uint8_t *configs, size_t configs_len,

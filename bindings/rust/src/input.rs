@@ -19,8 +19,8 @@ pub struct InputCost {
 /// read.
 ///
 /// Where the trellis answers, of whatever half-width, its cost is at most this one (proved). The levels that beam or trellis wrote,
-/// handed in, cost what was answered, unless a level was restored (a nonzero level where there was 0) and the penalty is not 1: here
-/// the levels are the input, so none is restored.
+/// handed in, cost what was answered (of the trellis proved), unless a level was restored (a nonzero level where there was 0) and the
+/// penalty is not 1: here the levels are the input, so none is restored. A level of 32,768, which a search may write, is refused.
 ///
 /// # Errors
 ///

@@ -41,10 +41,12 @@ module _ (v : Window) (book : Book) (b : Block) (old : Float) where
 
 pub told-input : (book : Book) (b : Block) (cost : Float) (count : ℕ) {answer : Answer} {code after : ℕ} {spent : Float} → Input.Promised book b answer
     → (code ≡ answerCode answer) × ((spent ≡ costAfter answer cost) × (after ≡ countAfter answer count)) → Promised book b cost count (replyOf code spent after)
-unfolding told
+unfolding told answerCode costAfter countAfter
 told-input book b cost count {answer} P t =
     record {
       reply = rw (t .0, t .1 .0, t .1 .1) (ap (λ (a : Answer). told a cost count) (P .outcome));
       is-cost = told-cost (windowOf (covered b)) book b cost (P .outcome) (P .is-cost) (t .0) (t .1 .0);
+      again = λ w l before x n h wrote charged none.
+          rw (t .0, t .1 .0, t .1 .1) (ap (λ (a : Answer). told a cost count) (P .again w l before x n h wrote charged none));
       never-less = λ w l x n h. told-no-less (windowOf (covered b)) book b cost (P .never-less w l x n h) (t .0) (t .1 .0);
     }

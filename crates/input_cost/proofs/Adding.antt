@@ -1,10 +1,8 @@
 -- The cost of the input's levels, from the window's end to its first position. Assumes nothing.
-use mathlib.Core.Path.{_≡_, refl, sym, ap, _∙_, subst⁻¹}
-use mathlib.Core.List.{List, _∷_}
+use mathlib.Core.Path.{_≡_, refl, sym, ap, _∙_}
 use Prim.Native.Nat.{ℕ, zero, suc, _+_, _-_, _*_, _≤_, _<_}
 use native.Mathlib.Omega.{arith}
-use native.Mathlib.Nat.{add-zero, add-suc, not-suc-le-zero, le-of-suc-le-suc}
-use lib.IntN.{ℤ}
+use native.Mathlib.Nat.{add-zero, not-suc-le-zero, le-of-suc-le-suc}
 use lib.Ieee.{Float, add, binary32}
 use Rattle.block.specs.Band.{halfWidth, positionAt, positionsFrom, pastWindow, tailOf, problemOf}
 use Rattle.block.specs.Block.{Block, covered, inputAt, inputFrom, inputRemaining}
@@ -12,7 +10,7 @@ use Rattle.block.specs.Choice.{windowLevels}
 use Rattle.block.specs.Cost.{localCost, firstPrev, countCost}
 use Rattle.block.specs.declared.Answer.the-variants.{Cost}
 use Rattle.least_cost.specs.Choice.{remaining, costOf}
-use Rattle.least_cost.specs.Position.{Position, Tail, nz}
+use Rattle.least_cost.specs.Position.{Tail, nz}
 use Rattle.least_cost.specs.Search.{countOf, wholeCost}
 use Rattle.prices.specs.Book.{Book}
 use Rattle.problem.proofs.Input.{input-count}

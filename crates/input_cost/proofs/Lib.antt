@@ -1,3 +1,4 @@
 mod Adding
 mod Turns
+mod Again
 mod Meaning

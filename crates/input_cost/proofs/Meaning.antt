@@ -1,5 +1,5 @@
 -- What is answered, and what it means. Assumes nothing.
-use mathlib.Core.Path.{_≡_, refl, sym, ap, _∙_, subst, subst⁻¹}
+use mathlib.Core.Path.{_≡_, refl, sym, ap, _∙_, subst}
 use mathlib.Core.Bool.{Bool, true, false, cond}
 use mathlib.Core.List.{List, [], _∷_}
 use Prim.Native.Nat.{ℕ, zero, suc, _*_}
@@ -10,7 +10,7 @@ use lib.Dec.{T, eqb, leb, lit≤}
 use lib.IntN.{ℤ}
 use lib.Ieee.{Float, le, add, binary32}
 use Rattle.block.specs.Band.{halfWidth, positionAt, positionsFrom, tailOf, problemOf}
-use Rattle.block.specs.Block.{Block, covered, inputRemaining}
+use Rattle.block.specs.Block.{Block, withLevels, covered, inputRemaining}
 use Rattle.block.specs.Checks.{validWidth, formChecks, contentChecks, blockRefusal, searchRefusal, enoughRoom}
 use Rattle.block.specs.Choice.{windowLevels}
 use Rattle.block.specs.Cost.{firstPrev, countCost}
@@ -26,7 +26,6 @@ use Rattle.least_cost.specs.Position.{Tail, nz}
 use Rattle.least_cost.specs.Search.{countOf, wholeCost}
 use Rattle.least_cost.proofs.Whole.{whole-cost}
 use Rattle.prices.specs.Book.{Book}
-use Rattle.prices.specs.Checks.{bookRefusal}
 use Rattle.problem.proofs.Main.{input-in-band}
 use Rattle.problem.proofs.Problem.{sound}
 use Rattle.problem.proofs.Refusals.{searched, still-searched}
@@ -34,12 +33,14 @@ use Rattle.search_checks.specs.Checked.{Checked, Searched}
 use Rattle.search_checks.proofs.Checked.{own-lists}
 use Rattle.search_checks.proofs.Refusing.{no-rows, window-of}
 use Rattle.steps.specs.declared.reading.Plan.{Plan}
+use Rattle.trellis.specs.Demand.{LeastCost}
 use Rattle.trellis.specs.Outcome.{refusal, searchedOutcome, bandedOutcome}
 use Rattle.trellis.proofs.Demand.{least-answered}
 use Rattle.weights.proofs.Lengths.{whole-window}
 use Rattle.weights.specs.Window.{windowFor}
 use Rattle.weights.specs.declared.Window.{Window}
-use Rattle.input_cost.specs.Input.{inputRefusal, inputCost, inputAnswer, NoLess, PromisedIn, Promised}
+use Rattle.input_cost.specs.Input.{inputRefusal, inputCost, inputAnswer, AtLambda, PromisedIn, Promised}
+use Rattle.input_cost.proofs.Again.{same-whole}
 
 -- ---- the checks are those of a search that asks for no room, at a half-width that passes
 module _ (v : Window) (book : Book) (b : Block) where
@@ -76,12 +77,13 @@ module _ (v : Window) (book : Book) (b : Block) where
         (cost-same (tailOf v book b) (v .length) 0 (firstPrev b (remaining (tailOf v book b .count) cs)) cs)
 
   -- ---- what the answer means
-  module _ (within : (n : ℕ) → blockRefusal n v b 0 ≡ 0 → Passed v b) where
+  -- whatever its levels, a block that passes the checks has the window within it
+  module _ (within : (x : List ℤ) (n : ℕ) → blockRefusal n v (withLevels b x) 0 ≡ 0 → Passed v (withLevels b x)) where
     input-cost : inputRefusal v book b ≡ 0 → T (isCost (inputCost v book b))
     unfolding inputCost windowLevels
     input-cost e =
         let s = searched halfWidth v book b true (checks-same ∙ e) in
-        let P = within halfWidth (s .1 .0) in
+        let P = within (b .levels) halfWidth (s .1 .0) in
         whole-cost (problemOf halfWidth v book b) (sound book (s .0) v b P halfWidth) _ (input-in-band halfWidth v book (s .0) b P)
 
     answered-cost : (x : Float) (count : ℕ) → inputAnswer v book b ≡ Cost x count → T (isCost x)
@@ -114,7 +116,26 @@ module _ (v : Window) (book : Book) (b : Block) where
     least-too : (w : ℕ) (l : Lent) (x : Float) (count : ℕ) → bandedOutcome w v book b l .answer ≡ Cost x count → T (le x (inputCost v book b))
     unfolding inputCost
     least-too w l x count e =
-        subst (λ (y : Float). T (le x y)) (whole-same w halfWidth (windowLevels v b (b .levels))) (least-answered w v book b (within w) l x count e .least-of-input)
+        subst (λ (y : Float). T (le x y)) (whole-same w halfWidth (windowLevels v b (b .levels))) (least-answered w v book b (within (b .levels) w) l x count e .least-of-input)
+
+    -- ---- levels that the trellis wrote
+    module _ (w : ℕ) (l : Lent) (before : List ℤ) (x : Float) (count : ℕ) (e : bandedOutcome w v book (withLevels b before) l .answer ≡ Cost x count)
+        (wrote : bandedOutcome w v book (withLevels b before) l .lent .levels ≡ b .levels) where
+      found : LeastCost w v book (withLevels b before) (b .levels) x count
+      found = subst (λ (y : List ℤ). LeastCost w v book (withLevels b before) y x count) wrote (least-answered w v book (withLevels b before) (within before w) l x count e)
+
+      written-cost : AtLambda v b before → x ≡ inputCost v book b
+      unfolding windowLevels covered
+      written-cost charged =
+          found .cost-is ∙ same-whole v book b before (λ j far m. sym (found .choice .after j far (omega (arith, m, far)))) charged w
+
+      written-count : count ≡ inputRemaining b (covered b)
+      unfolding covered
+      written-count = found .count-is
+
+      again-cost : AtLambda v b before → inputRefusal v book b ≡ 0 → inputAnswer v book b ≡ Cost x count
+      again-cost charged none =
+          sym (cost-answer none) ∙ ap (λ (y : Float). Cost y (inputRemaining b (covered b))) (sym (written-cost charged)) ∙ ap (Cost x) (sym written-count)
 
     promised : {answer : Answer} → answer ≡ inputAnswer v book b → PromisedIn v book b answer
     promised e =
@@ -128,13 +149,15 @@ module _ (v : Window) (book : Book) (b : Block) where
                 is = e ∙ sym (cost-answer (passed-too w l (trellis-passed w l x count h)));
                 no-less = least-too w l x count h;
               };
+          again = λ w l before x count h wrote charged none. e ∙ again-cost w l before x count h wrote charged none;
         }
 
 -- ---- the two ends of the call, with document 01's window
 module _ (book : Book) (b : Block) where
   whole : {answer : Answer} → answer ≡ inputAnswer (windowFor 1024 (covered b)) book b → Promised book b answer
+  unfolding covered
   whole {answer} e =
-      subst (λ (v : Window). PromisedIn v book b answer) (whole-window (covered b)) (promised (windowFor 1024 (covered b)) book b (λ n. passed n 1024 b (lit≤ tt)) e)
+      subst (λ (v : Window). PromisedIn v book b answer) (whole-window (covered b)) (promised (windowFor 1024 (covered b)) book b (λ x n. passed n 1024 (withLevels b x) (lit≤ tt)) e)
 
   module _ {n : ℕ} (e : n ≡ searchRefusal halfWidth (windowFor 1024 (covered b)) book b (enoughRoom 0 0 (windowFor 1024 (covered b) .length) 0 0 0)) where
     pub refuses : (n ≡ 0 → ⊥) → Promised book b (Refused n)

@@ -1,14 +1,16 @@
 -- What a block's levels cost as they stand, by the definition of the searches' costs.
-use Prim.Native.Nat.{ℕ}
+use Prim.Native.Nat.{ℕ, _+_, _<_}
 use mathlib.Core.Path.{_≡_}
 use mathlib.Core.Bool.{cond}
-use mathlib.Core.List.{_++_}
+use mathlib.Core.List.{List, _++_}
 use lib.Dec.{T, eqb}
+use lib.IntN.{ℤ}
 use lib.Ieee.{Float, le}
 use Rattle.block.specs.Band.{halfWidth, problemOf}
-use Rattle.block.specs.Block.{Block, covered, inputRemaining}
+use Rattle.block.specs.Block.{Block, withLevels, covered, inputAt, inputRemaining}
 use Rattle.block.specs.Checks.{formChecks, contentChecks}
 use Rattle.block.specs.Choice.{windowLevels}
+use Rattle.block.specs.Cost.{rate}
 use Rattle.block.specs.Outcome.{Lent}
 use Rattle.block.specs.declared.Answer.{Answer}
 use Rattle.block.specs.declared.Answer.the-variants.{Cost, Refused}
@@ -41,6 +43,10 @@ pub record NoLess (x : Float) (answer : Answer) : Type 0 where
   pub is : answer ≡ Cost cost count
   pub no-less : T (le x cost)
 
+-- Of a block that had the levels `before`, those that stand there now were each charged at lambda: none was restored, or the penalty changes nothing.
+abbrev pub AtLambda : Window → Block → List ℤ → Type 0
+AtLambda v b before = (i : ℕ) → i < v .length → rate (withLevels b before) i (inputAt b (covered b + i)) ≡ b .settings .lambda
+
 -- What the call promises of a book and a block.
 pub record PromisedIn (v : Window) (book : Book) (b : Block) (answer : Answer) : Type 0 where
   -- the answer
@@ -49,6 +55,10 @@ pub record PromisedIn (v : Window) (book : Book) (b : Block) (answer : Answer) :
   pub is-cost : (x : Float) (count : ℕ) → answer ≡ Cost x count → T (isCost x)
   -- where the trellis answers a cost, of whatever half-width and with whatever room, this call answers one that is no less
   pub never-less : (w : ℕ) (l : Lent) (x : Float) (count : ℕ) → bandedOutcome w v book b l .answer ≡ Cost x count → NoLess x answer
+  -- levels that the trellis wrote cost what it answered, where it charged each at lambda and they pass the checks (a level of 32,768 does not)
+  pub again : (w : ℕ) (l : Lent) (before : List ℤ) (x : Float) (count : ℕ)
+      → bandedOutcome w v book (withLevels b before) l .answer ≡ Cost x count → bandedOutcome w v book (withLevels b before) l .lent .levels ≡ b .levels
+      → AtLambda v b before → inputRefusal v book b ≡ 0 → answer ≡ Cost x count
 
 -- with document 01's window
 abbrev pub Promised : Book → Block → Answer → Type 0

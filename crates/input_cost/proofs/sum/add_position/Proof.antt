@@ -1,4 +1,3 @@
-use mathlib.Core.Path.{ap, _∙_}
 use Prim.Native.Nat.{_≤_}
 use native.Mathlib.Omega.{arith}
 use Rattle.least_cost.proofs.Trial.{nz-le}

@@ -1,11 +1,10 @@
-use mathlib.Core.Path.{_≡_, refl, ap, _∙_, subst⁻¹}
-use Prim.Native.Nat.{ℕ, suc, _+_, _-_, _≤_, _<_}
+use mathlib.Core.Path.{_≡_}
+use Prim.Native.Nat.{suc, _-_, _≤_}
 use native.Mathlib.Nat.{le-refl}
 use native.Mathlib.Omega.{arith}
 use Rattle.prices.specs.Book.{bookOf}
 use Rattle.search_checks.specs.Checked.{Searched}
 use Rattle.input_cost.specs.Sum.{Summed}
-use Rattle.input_cost.specs.declared.sum.Sum.{Sum}
 use Rattle.input_cost.proofs.Adding.{summed-whole}
 use Rattle.input_cost.proofs.Turns.{within-now, remaining-small}
 use borrow.Author.Needs.{needs}
