@@ -5,8 +5,8 @@ use denote.Floats.{passes}
 use mir.Facts.{fits-lt, fits-lit}
 use borrow.Author.Needs.{needs}
 use Rattle.book_rows.proofs.Steps.{no-nan}
-use Rattle.view_examples.proofs.say_price.Statement.{statement}
-use Rattle.view_examples.proofs.say_price.Tie as tie
+use Rattle.book_examples.proofs.views.say_price.Statement.{statement}
+use Rattle.book_examples.proofs.views.say_price.Tie as tie
 
 slice-aggregate-write-all : tie.Need-slice-aggregate-write-all
 slice-aggregate-write-all c = search needs

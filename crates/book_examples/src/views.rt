@@ -1,4 +1,4 @@
-// Prices values through a view and through plain slices, and prints what the view answers and whether the plain call answers the same: a refusal's number, or a
+// Values priced through a view and through plain slices. Prints what the view answers and whether the plain call answers the same: a refusal's number, or a
 // price as the eight hexadecimal digits of its bits.
 use libc::STDOUT_FILENO;
 use rdoq::answer::Real;
@@ -162,7 +162,7 @@ fn comparisons<'a>(map: &'a [u8], configs: &'a [u8], symbols: &'a [f32], ready: 
 
 // Two clusters of configurations 4,2,0 and 6,2,0. Symbol prices are 1, but 2 in cluster 1 for the symbols of 16 and of 255, which are 16 and 71. One ready price
 // of cluster 0 is wrong.
-fn main() {
+pub fn price_through_a_view() {
     let map = two_clusters();
     let configs: [u8; 6] = [4, 2, 0, 6, 2, 0];
     let mut symbols: [f32; 256] = [1.0; 256];
