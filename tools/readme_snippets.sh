@@ -1,6 +1,6 @@
 #!/usr/bin/env bash
-# Holds the code in docs/USING.md to the files that are compiled, in C and in Rust to those that `make bindings` runs, in Rattle to the
-# program's; and the README's output to what `make run` prints.
+# Holds the code in docs/USING.md to the files that are compiled, in C and in Rust to those that `make bindings` runs, in Rattle to what
+# the program calls; and the README's output to what `make run` prints.
 # Usage, at the root of the repository: tools/readme_snippets.sh
 set -euo pipefail
 
@@ -29,5 +29,5 @@ within() {
 
 same docs/USING.md rust bindings/rust/examples/quick_start.rs
 same docs/USING.md c bindings/c/quick_start.c
-within docs/USING.md rattle "$(< crates/level_search/src/search.rt)" crates/level_search/src/search.rt
+within docs/USING.md rattle "$(< crates/block_search/src/lib.rt)" crates/block_search/src/lib.rt
 within README.md text "$(tools/explain.sh < examples/blocks.txt)" 'what make run prints'

@@ -1,5 +1,7 @@
 // Document 01's examples of a price book that are not starred, and more of its checks, through the public calls. Prints a line for each: what was asked, and
-// the answer. Prices are printed as the eight hexadecimal digits of their bits.
+// the answer. Prices are printed as the eight hexadecimal digits of their bits. Then values priced through a view, see `views`.
+mod views;
+
 use libc::STDOUT_FILENO;
 use rdoq::answer::Real;
 use rdoq::answer::RealPair;
@@ -164,15 +166,28 @@ fn ready_without_words(map: &[u8]) {
     ready_without_a_word(b"6,3,3, ready price of 128 15: ", map, 15.0);
 }
 
-fn lengths(map: &[u8], text: &[u8], clusters: u32, c: usize, s: usize, r: usize)
-    requires { ⌜ (c ≤ 3) × ((s ≤ 128) × (r ≤ 256)) ⌝ }
+fn lengths(
+    map: &[u8],
+    text: &[u8],
+    clusters: u32,
+    of_configs: usize,
+    of_symbols: usize,
+    of_ready: usize,
+)
+    requires { ⌜ («of_configs» ≤ 3) × ((«of_symbols» ≤ 128) × («of_ready» ≤ 256)) ⌝ }
 {
     let configs: [u8; 3] = [4, 2, 0];
     let symbols: [f32; 128] = [1.0; 128];
     let ready: [f32; 256] = [1.0; 256];
     say(
         text,
-        check_book(clusters, map, &configs[..c], &symbols[..s], &ready[..r]),
+        check_book(
+            clusters,
+            map,
+            &configs[..of_configs],
+            &symbols[..of_symbols],
+            &ready[..of_ready],
+        ),
     );
 }
 
@@ -344,4 +359,5 @@ fn main() {
     split_prices(&map);
     short_map(&map);
     map_entry(&mut map);
+    views::price_through_a_view();
 }

@@ -1,2 +1,0 @@
-mod Soundness
-mod Zeros
