@@ -1,5 +1,6 @@
 -- `book_build::fill_ready` meets its contract. Assumes nothing.
 use mathlib.Core.Path.{sym, _∙_}
+use native.Mathlib.Omega.{arith}
 use borrow.Author.Needs.{needs}
 use Rattle.prices.proofs.Passed.{sound}
 use Rattle.book_rows.proofs.Steps.{sound-row}
@@ -19,7 +20,7 @@ returns c = (c .before .check-five .ensures, sym (refused _ (λ e. c .if1 .taken
 write-ready-requires : tie.Need-write-ready-requires
 write-ready-requires c κs =
     let p = sound _ (sym (c .before .before .check-five .ensures) ∙ c .before .if1 .left) in
-    (sound-row _ p, p .ready-long)
+    (λ k h. sound-row _ p k (omega (arith, h, p .ready-long)))
 
 same-length-2 : tie.Need-same-length-2
 same-length-2 c = search needs
@@ -28,7 +29,7 @@ returns-2 : tie.Need-returns-2
 returns-2 c =
     let found = c .before .before .before .before in
     let zero = sym (found .before .check-five .ensures) ∙ found .if1 .left in
-    (sym zero, c .before .before .write-ready .ensures ∙ sym (accepted _ zero))
+    (sym zero, c .before .before .write-ready .ensures ∙ rw (sound _ zero .ready-long) (sym (accepted _ zero)))
 
 pub fill-ready-spec : {M : Type 1} → statement M
 fill-ready-spec =
