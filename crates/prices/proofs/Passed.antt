@@ -11,7 +11,7 @@ use lib.Ieee.Bits.{ofBits-toBits}
 use lib.Ieee.Fits.{add-fits}
 use borrow.Author.Tests.{eqb-true, eqb-false, leb-true, ltb-true}
 use Rattle.prices.specs.Book.{Book, bookOf, bookIn, at, clusterValid, clusterPrice, price}
-use Rattle.prices.specs.Checks.{symbolPrice, sameBits, check1, check2, check3, check4, check5, check6, mapBelow, allPriced, rowKept, firstTwo, firstFive, fillRefusal, bookRefusal, Priced}
+use Rattle.prices.specs.Checks.{symbolPrice, sameBits, check1, check2, check3, check4, check5, check6, mapBelow, allPriced, rowKept, firstTwo, firstFive, fillRefusal, bookRefusal, ClusterPassed}
 use Rattle.prices.proofs.Each.{both, each-below}
 
 -- checks 1 to 5
@@ -167,7 +167,7 @@ pub listed-passed : (b : Book) → bookRefusal b ≡ 0 → bookRefusal (listed b
 listed-passed b e = ap bookRefusal (sym (by-lists b e)) ∙ e
 
 -- a cluster of a book that passes them
-pub priced-in : {b : Book} {k : ℕ} → Passed b → k < b .clusters → Priced (b .configs) (b .symbols) (b .ready) k
+pub priced-in : {b : Book} {k : ℕ} → Passed b → k < b .clusters → ClusterPassed (b .configs) (b .symbols) (b .ready) k
 priced-in {b} {k} p h =
     record {
       few = omega (arith, h, p .sound .few);

@@ -7,7 +7,7 @@ ghost use mathlib.Core.Bool.{true};
 ghost use Prim.Native.Nat.{_≤_, _<_, _+_, _*_};
 ghost use lib.ListN.{length, getD};
 ghost use Rattle.prices.specs.Book.{bookIn, price, symbolAt, clusterPrice, clusterValid, clusterSymbol, clusterExtra};
-ghost use Rattle.prices.specs.Checks.{bookRefusal, Priced};
+ghost use Rattle.prices.specs.Checks.{bookRefusal, ClusterPassed};
 
 // The prices of a value in two contexts.
 pub struct Pair {
@@ -72,7 +72,7 @@ pub fn cluster_bits(
     cluster: usize,
     value: u32,
 ) -> f32
-    requires { ⌜ Priced (now configs) (now symbols) (now ready) cluster ⌝ }
+    requires { ⌜ ClusterPassed (now configs) (now symbols) (now ready) cluster ⌝ }
     requires { ⌜ value ≤ 131071 ⌝ }
     ensures { λ r. ⌜ r ≡ clusterPrice (now (configs .entry)) (now (symbols .entry)) cluster value ⌝ }
 {

@@ -19,7 +19,7 @@ use Rattle.packing.specs.Signed.{packSigned}
 use Rattle.least_cost.proofs.Trial.{nz-le}
 use Rattle.least_cost.specs.Position.{nz}
 use Rattle.prices.specs.Book.{Book, bookIn, price, clusterPrice}
-use Rattle.prices.specs.Checks.{Priced}
+use Rattle.prices.specs.Checks.{ClusterPassed}
 use Rattle.prices.proofs.Passed.{Passed, priced-in}
 use Rattle.scan.specs.Scan.{levelAt}
 use Rattle.steps.specs.Plan.{Planned, Coded}
@@ -99,16 +99,16 @@ stretch-price map configs symbols ready b p s k most r i (suc (suc prev)) q w sh
 
 -- one of two clusters that have prices has prices
 pub priced-by : (configs : List ℕ) (symbols ready : List Float) (zero one prev cluster : ℕ) → cluster ≡ cond (eqb prev 0) zero one
-    → Priced configs symbols ready zero → Priced configs symbols ready one → Priced configs symbols ready cluster
-priced-by configs symbols ready a b prev cluster e x y = subst⁻¹ (Priced configs symbols ready) e (go (eqb prev 0))
+    → ClusterPassed configs symbols ready zero → ClusterPassed configs symbols ready one → ClusterPassed configs symbols ready cluster
+priced-by configs symbols ready a b prev cluster e x y = subst⁻¹ (ClusterPassed configs symbols ready) e (go (eqb prev 0))
   where
-    go : (t : Bool) → Priced configs symbols ready (cond t a b)
+    go : (t : Bool) → ClusterPassed configs symbols ready (cond t a b)
     go true = x
     go false = y
 
 -- both clusters of a stretch have prices where the book passed
 pub both-priced : {map configs : List ℕ} {symbols ready : List Float} {p : Plan} {n k : ℕ} {s : Stretch} → Passed (bookIn map configs symbols ready) → Coded p → Coefficient (p .covered) n k 0 → Shared p map k n s
-    → (Priced configs symbols ready (s .zero)) × (Priced configs symbols ready (s .one))
+    → (ClusterPassed configs symbols ready (s .zero)) × (ClusterPassed configs symbols ready (s .one))
 both-priced {map} {configs} {symbols} {ready} {p} {n} {k} {s} book w co sh =
     let few = pair-below (covered-some (w .covers)) co in
     let zero = book .sound .mapped (p .offset + zeroDensityContext (p .covered) n k 0) (omega (arith, few, w .offset)) in

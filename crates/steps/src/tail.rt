@@ -15,7 +15,7 @@ ghost use Rattle.block.specs.Cost.{tokensFrom};
 ghost use Rattle.candidates.specs.Candidates.{isCurrent};
 ghost use Rattle.packing.specs.Signed.{packSigned};
 ghost use Rattle.prices.specs.Book.{bookIn, clusterPrice};
-ghost use Rattle.prices.specs.Checks.{bookRefusal, Priced};
+ghost use Rattle.prices.specs.Checks.{bookRefusal, ClusterPassed};
 ghost use Rattle.steps.specs.Plan.{Planned, Coded, Whole};
 ghost use Rattle.steps.specs.Tail.{Shared, Standing, Continued};
 
@@ -74,7 +74,7 @@ fn stretch_cost(
     prev: usize,
     level: i32,
 ) -> f32
-    requires { ⌜ (Priced (now configs) (now symbols) (now ready) zero) × (Priced (now configs) (now symbols) (now ready) one) ⌝ }
+    requires { ⌜ (ClusterPassed (now configs) (now symbols) (now ready) zero) × (ClusterPassed (now configs) (now symbols) (now ready) one) ⌝ }
     requires { ⌜ T (isCurrent level) ⌝ }
     ensures { λ r. ⌜ r ≡ mul binary32 lambda (clusterPrice (now (configs .entry)) (now (symbols .entry)) (cond (eqb prev 0) zero one) (packSigned level)) ⌝ }
 {
@@ -94,7 +94,7 @@ fn add_stretch(
     stretch: Stretch,
     tail: Tail,
 ) -> Tail
-    requires { ⌜ (Priced (now configs) (now symbols) (now ready) (stretch .zero)) × (Priced (now configs) (now symbols) (now ready) (stretch .one)) ⌝ }
+    requires { ⌜ (ClusterPassed (now configs) (now symbols) (now ready) (stretch .zero)) × (ClusterPassed (now configs) (now symbols) (now ready) (stretch .one)) ⌝ }
     requires { ⌜ Standing (now scan) (now levels) tail ⌝ }
     requires { ⌜ (stretch .end ≤ length (now scan)) × (1 ≤ stretch .least) ⌝ }
     ensures { λ r. ⌜ Standing (now (scan .entry)) (now (levels .entry)) r ⌝ }
