@@ -194,7 +194,7 @@ pub fn rdoq_block_checked(
         (resultOf r (now (levels .exit)) (now (choices .exit)) (now («row_a» .exit)) (now («row_b» .exit)))) ⌝ }
 {
     let asked = asked_by(search, width);
-    let refusal = search_checks::check_searched(
+    let refusal = search_checks::check_block_and_room(
         shape,
         settings,
         bias,
