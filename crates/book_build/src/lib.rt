@@ -34,7 +34,7 @@ pub fn fill_ready(
     ensures { λ r. ⌜ r ≡ fillRefusal (bookOf clusters (now (map .entry)) (now (configs .entry)) (now (symbols .entry)) (now (ready .entry))) ⌝ }
     ensures { λ r. ⌜ now (ready .exit) ≡ filledReady (bookOf clusters (now (map .entry)) (now (configs .entry)) (now (symbols .entry)) (now (ready .entry))) ⌝ }
 {
-    let five = book_checks::check_five(clusters, map, configs, symbols, ready);
+    let five = book_checks::check_one_to_five(clusters, map, configs, symbols, ready);
     if five != 0 {
         return five;
     }
