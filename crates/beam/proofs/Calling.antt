@@ -1,5 +1,5 @@
 -- The whole call: each way it ends is the defined outcome. Assumes nothing.
-use mathlib.Core.Path.{_≡_, ap, _∙_, subst}
+use mathlib.Core.Path.{_≡_, sym, ap, _∙_, subst}
 use mathlib.Core.List.{List}
 use Prim.Native.Nat.{ℕ, _*_, _≤_}
 use borrow.Author.Tests.{eq-eqb, ne-eqb}
@@ -10,6 +10,8 @@ use Rattle.block.specs.Checks.{searchRefusal, enoughRoom}
 use Rattle.block.specs.declared.Answer.{Answer}
 use Rattle.block.specs.declared.Answer.the-variants.{Refused}
 use Rattle.prices.specs.Book.{Book}
+use Rattle.prices.proofs.Passed.{listed, by-lists}
+use Rattle.problem.proofs.Refusals.{searched}
 use Rattle.search_checks.proofs.Checked.{own-lists}
 use Rattle.search_checks.proofs.Refusing.{no-rows}
 use Rattle.search_checks.specs.Checked.{Checked, Searched}
@@ -36,9 +38,13 @@ pub searched-beam : (v : Window) (book : Book) (b : Block) (choices : List ℕ) 
 unfolding searchedOutcome
 searched-beam v book b choices a c n = rw (a .0, a .1, c, n)
 
-pub let-pass : (w : ℕ) (v : Window) (book : Book) (b : Block) (choices : List ℕ) → refusal w v book b choices ≡ 0 → {after : Outcome} → after ≡ searchedOutcome v book b choices → after ≡ beamOutcome w v book b choices
+same-book : (w : ℕ) (v : Window) (book : Book) (b : Block) (choices : List ℕ) → refusal w v book b choices ≡ 0 → book ≡ listed book
+unfolding refusal
+same-book w v book b choices none = by-lists book (searched w v book b _ none .0)
+
+pub let-pass : (w : ℕ) (v : Window) (book : Book) (b : Block) (choices : List ℕ) → refusal w v book b choices ≡ 0 → {after : Outcome} → after ≡ searchedOutcome v (listed book) b choices → after ≡ beamOutcome w v book b choices
 unfolding beamOutcome
-let-pass w v book b choices none e = rw (eq-eqb (refusal w v book b choices) 0 none) e
+let-pass w v book b choices none e = rw (eq-eqb (refusal w v book b choices) 0 none) (e ∙ ap (λ (k : Book). searchedOutcome v k b choices) (sym (same-book w v book b choices none)))
 
 pub by-check : (w : ℕ) (v : Window) (book : Book) (b : Block) (choices : List ℕ) {n : ℕ} → n ≡ searchRefusal w v book b (enoughRoom 6 0 (v .length) (length choices) 0 0) → n ≡ refusal w v book b choices
 unfolding refusal

@@ -9,7 +9,7 @@ ghost use lib.ListN.{getD};
 ghost use Rattle.beam_paths.specs.Held.{PathsFor, noPath};
 ghost use Rattle.beam_paths.specs.Path.{Path};
 ghost use Rattle.block.specs.Block.{Block};
-ghost use Rattle.prices.specs.Book.{bookOf};
+ghost use Rattle.prices.specs.Book.{bookIn};
 ghost use Rattle.steps.specs.Plan.{Planned};
 ghost use Rattle.beam.specs.Beam.{pathTotal, problem};
 ghost use Rattle.beam.specs.Held.{paths, considered, Countable, Ended};
@@ -33,7 +33,6 @@ impl Best {
 
 // The whole cost of path `j`.
 fn total_of(
-    clusters: u32,
     map: &[u8],
     configs: &[u8],
     symbols: &[f32],
@@ -42,19 +41,17 @@ fn total_of(
     kept: Paths,
     j: usize,
 ) -> f32
-    requires { ⌜ Countable (bookOf clusters (now map) (now configs) (now symbols) (now ready)) plan kept ⌝ }
+    requires { ⌜ Countable (bookIn (now map) (now configs) (now symbols) (now ready)) plan kept ⌝ }
     requires { ⌜ j < kept .count ⌝ }
     ensures { λ r. ⌜ ((b : Block) (xs : List Path) → Planned b plan → PathsFor xs kept
-        → r ≡ pathTotal (problem (plan .window) (bookOf clusters (now (map .entry)) (now (configs .entry)) (now (symbols .entry)) (now (ready .entry))) b) (getD xs j noPath)) ⌝ }
+        → r ≡ pathTotal (problem (plan .window) (bookIn (now (map .entry)) (now (configs .entry)) (now (symbols .entry)) (now (ready .entry))) b) (getD xs j noPath)) ⌝ }
 {
     let count = kept.remaining[j];
     let prev = tokens::first_prev(plan.covered, count);
-    kept.costs[2 * j + prev]
-        + tokens::count_cost(clusters, map, configs, symbols, ready, plan, count)
+    kept.costs[2 * j + prev] + tokens::count_cost(map, configs, symbols, ready, plan, count)
 }
 
 pub(crate) fn best_path(
-    clusters: u32,
     map: &[u8],
     configs: &[u8],
     symbols: &[f32],
@@ -62,9 +59,9 @@ pub(crate) fn best_path(
     plan: Plan,
     kept: Paths,
 ) -> Best
-    requires { ⌜ Countable (bookOf clusters (now map) (now configs) (now symbols) (now ready)) plan kept ⌝ }
-    ensures { λ r. ⌜ ((b : Block) → Planned b plan → PathsFor (paths (plan .window) (bookOf clusters (now (map .entry)) (now (configs .entry)) (now (symbols .entry)) (now (ready .entry))) b 0) kept
-        → Ended (plan .window) (bookOf clusters (now (map .entry)) (now (configs .entry)) (now (symbols .entry)) (now (ready .entry))) b r) ⌝ }
+    requires { ⌜ Countable (bookIn (now map) (now configs) (now symbols) (now ready)) plan kept ⌝ }
+    ensures { λ r. ⌜ ((b : Block) → Planned b plan → PathsFor (paths (plan .window) (bookIn (now (map .entry)) (now (configs .entry)) (now (symbols .entry)) (now (ready .entry))) b 0) kept
+        → Ended (plan .window) (bookIn (now (map .entry)) (now (configs .entry)) (now (symbols .entry)) (now (ready .entry))) b r) ⌝ }
 {
     // No path stands at 3: where none is cheaper than +infinity, none is found.
     let mut best = Best {
@@ -72,7 +69,7 @@ pub(crate) fn best_path(
         path: 3,
     };
     for j in 0..kept.count {
-        let cost = total_of(clusters, map, configs, symbols, ready, plan, kept, j);
+        let cost = total_of(map, configs, symbols, ready, plan, kept, j);
         best = best.consider(cost, j);
     }
     best

@@ -13,7 +13,7 @@ ghost use mathlib.Core.Path.{_≡_};
 ghost use Prim.Native.Nat.{_*_, _≤_};
 ghost use lib.ListN.{length};
 ghost use Rattle.block.specs.Block.{blockOf, covered};
-ghost use Rattle.prices.specs.Book.{bookOf};
+ghost use Rattle.prices.specs.Book.{bookOf, bookIn};
 ghost use Rattle.search_checks.specs.Checked.{Accepted};
 ghost use Rattle.weights.specs.Window.{windowFor};
 ghost use Rattle.beam.specs.Beam.{outcomeOf, searchedOutcome};
@@ -24,7 +24,6 @@ pub const BEAM_BYTES: usize = 6;
 
 // The search alone, of a block that passed its checks: a window of at most `cap` positions.
 pub fn search_beam(
-    clusters: u32,
     map: &[u8],
     configs: &[u8],
     symbols: &[f32],
@@ -41,13 +40,12 @@ pub fn search_beam(
     cap: usize,
 ) -> Answer
     requires { ⌜ (let b = blockOf shape settings bias scale (now scan) (now source) (now «inv_qm») (now levels) in let v = windowFor cap (covered b) in
-        Accepted v (bookOf clusters (now map) (now configs) (now symbols) (now ready)) b × (6 * v .length ≤ length (now choices))) ⌝ }
+        Accepted v (bookIn (now map) (now configs) (now symbols) (now ready)) b × (6 * v .length ≤ length (now choices))) ⌝ }
     ensures { λ r. ⌜ (let b = blockOf shape settings bias scale (now (scan .entry)) (now (source .entry)) (now («inv_qm» .entry)) (now (levels .entry)) in
-        outcomeOf r (now (levels .exit)) (now (choices .exit)) ≡ searchedOutcome (windowFor cap (covered b)) (bookOf clusters (now (map .entry)) (now (configs .entry)) (now (symbols .entry)) (now (ready .entry))) b (now (choices .entry))) ⌝ }
+        outcomeOf r (now (levels .exit)) (now (choices .exit)) ≡ searchedOutcome (windowFor cap (covered b)) (bookIn (now (map .entry)) (now (configs .entry)) (now (symbols .entry)) (now (ready .entry))) b (now (choices .entry))) ⌝ }
 {
     let plan = steps::reading::plan_of(shape, settings, bias, scale, cap);
     let answer = search::search(
-        clusters,
         map,
         configs,
         symbols,
@@ -114,7 +112,6 @@ pub fn rdoq_block_beam(
         return Answer::Refused(refusal);
     }
     search_beam(
-        clusters,
         map,
         configs,
         symbols,

@@ -5,7 +5,7 @@ ghost use mathlib.Core.Path.{_≡_};
 ghost use Prim.Native.Nat.{suc, _+_, _*_, _≤_, _<_};
 ghost use lib.ListN.{length};
 ghost use Rattle.beam_paths.specs.Held.{PathsFor};
-ghost use Rattle.prices.specs.Book.{bookOf};
+ghost use Rattle.prices.specs.Book.{bookIn};
 ghost use Rattle.search_checks.specs.Checked.{Searched};
 ghost use Rattle.beam.specs.Held.{paths, Stored, Stepped, Reached};
 
@@ -23,7 +23,6 @@ fn store(choices: &mut [u8], at: usize, six: [u8; 6])
 
 // `behind` are the paths of the position after it.
 fn take_position(
-    clusters: u32,
     map: &[u8],
     configs: &[u8],
     symbols: &[f32],
@@ -37,18 +36,17 @@ fn take_position(
     behind: Paths,
     choices: &mut [u8],
 ) -> Paths
-    requires { ⌜ Searched (bookOf clusters (now map) (now configs) (now symbols) (now ready)) (now scan) (now source) (now «inv_qm») (now levels) plan ⌝ }
-    requires { ⌜ ((w : Searched (bookOf clusters (now map) (now configs) (now symbols) (now ready)) (now scan) (now source) (now «inv_qm») (now levels) plan)
-        → (i < plan .window .length) × PathsFor (paths (plan .window) (bookOf clusters (now map) (now configs) (now symbols) (now ready)) (w .block) (suc i)) behind) ⌝ }
+    requires { ⌜ Searched (bookIn (now map) (now configs) (now symbols) (now ready)) (now scan) (now source) (now «inv_qm») (now levels) plan ⌝ }
+    requires { ⌜ ((w : Searched (bookIn (now map) (now configs) (now symbols) (now ready)) (now scan) (now source) (now «inv_qm») (now levels) plan)
+        → (i < plan .window .length) × PathsFor (paths (plan .window) (bookIn (now map) (now configs) (now symbols) (now ready)) (w .block) (suc i)) behind) ⌝ }
     requires { ⌜ 6 * i + 6 ≤ length (now choices) ⌝ }
-    ensures { λ r. ⌜ ((w : Searched (bookOf clusters (now (map .entry)) (now (configs .entry)) (now (symbols .entry)) (now (ready .entry))) (now (scan .entry)) (now (source .entry)) (now («inv_qm» .entry)) (now (levels .entry)) plan)
-        → Stepped (plan .window) (bookOf clusters (now (map .entry)) (now (configs .entry)) (now (symbols .entry)) (now (ready .entry))) (w .block) i (now (choices .entry)) (now (choices .exit)) r) ⌝ }
+    ensures { λ r. ⌜ ((w : Searched (bookIn (now (map .entry)) (now (configs .entry)) (now (symbols .entry)) (now (ready .entry))) (now (scan .entry)) (now (source .entry)) (now («inv_qm» .entry)) (now (levels .entry)) plan)
+        → Stepped (plan .window) (bookIn (now (map .entry)) (now (configs .entry)) (now (symbols .entry)) (now (ready .entry))) (w .block) i (now (choices .entry)) (now (choices .exit)) r) ⌝ }
 {
     let mut offered = [0i32; 5];
     let offer = plan.offer(scan, source, inv_qm, levels, i, &mut offered);
     let place = plan.place(i, offer.ideal, offer.level);
     let step = beam_row::take_step(
-        clusters,
         map,
         configs,
         symbols,
@@ -65,7 +63,6 @@ fn take_position(
 
 // The positions before `from`, down to `upto`.
 pub(crate) fn take_positions(
-    clusters: u32,
     map: &[u8],
     configs: &[u8],
     symbols: &[f32],
@@ -80,21 +77,20 @@ pub(crate) fn take_positions(
     start: Paths,
     choices: &mut [u8],
 ) -> Paths
-    requires { ⌜ Searched (bookOf clusters (now map) (now configs) (now symbols) (now ready)) (now scan) (now source) (now «inv_qm») (now levels) plan ⌝ }
-    requires { ⌜ ((w : Searched (bookOf clusters (now map) (now configs) (now symbols) (now ready)) (now scan) (now source) (now «inv_qm») (now levels) plan)
-        → Reached (plan .window) (bookOf clusters (now map) (now configs) (now symbols) (now ready)) (w .block) from (now choices) start) ⌝ }
+    requires { ⌜ Searched (bookIn (now map) (now configs) (now symbols) (now ready)) (now scan) (now source) (now «inv_qm») (now levels) plan ⌝ }
+    requires { ⌜ ((w : Searched (bookIn (now map) (now configs) (now symbols) (now ready)) (now scan) (now source) (now «inv_qm») (now levels) plan)
+        → Reached (plan .window) (bookIn (now map) (now configs) (now symbols) (now ready)) (w .block) from (now choices) start) ⌝ }
     requires { ⌜ (upto ≤ from) × (from ≤ plan .window .length) ⌝ }
     requires { ⌜ 6 * plan .window .length ≤ length (now choices) ⌝ }
     ensures { λ r. ⌜ length (now (choices .exit)) ≡ length (now (choices .entry)) ⌝ }
-    ensures { λ r. ⌜ ((w : Searched (bookOf clusters (now (map .entry)) (now (configs .entry)) (now (symbols .entry)) (now (ready .entry))) (now (scan .entry)) (now (source .entry)) (now («inv_qm» .entry)) (now (levels .entry)) plan)
-        → Reached (plan .window) (bookOf clusters (now (map .entry)) (now (configs .entry)) (now (symbols .entry)) (now (ready .entry))) (w .block) upto (now (choices .exit)) r) ⌝ }
+    ensures { λ r. ⌜ ((w : Searched (bookIn (now (map .entry)) (now (configs .entry)) (now (symbols .entry)) (now (ready .entry))) (now (scan .entry)) (now (source .entry)) (now («inv_qm» .entry)) (now (levels .entry)) plan)
+        → Reached (plan .window) (bookIn (now (map .entry)) (now (configs .entry)) (now (symbols .entry)) (now (ready .entry))) (w .block) upto (now (choices .exit)) r) ⌝ }
 {
     let mut paths = start;
     let mut i = from;
     while upto < i {
         i -= 1;
         paths = take_position(
-            clusters,
             map,
             configs,
             symbols,

@@ -13,7 +13,7 @@ ghost use Prim.Native.Nat.{_*_, _≤_};
 ghost use lib.ListN.{length};
 ghost use Rattle.beam_paths.specs.Held.{PathsFor};
 ghost use Rattle.block.specs.Block.{Block};
-ghost use Rattle.prices.specs.Book.{Book, bookOf};
+ghost use Rattle.prices.specs.Book.{Book, bookIn};
 ghost use Rattle.search_checks.specs.Checked.{Searched};
 ghost use Rattle.search_checks.specs.Start.{Starts};
 ghost use Rattle.weights.specs.declared.Window.{Window};
@@ -61,7 +61,6 @@ fn write_found(
 
 // The positions are taken by two calls, so that their loop stays a function of its own: inlined beside the checks it takes more instructions.
 pub(crate) fn search(
-    clusters: u32,
     map: &[u8],
     configs: &[u8],
     symbols: &[f32],
@@ -73,17 +72,16 @@ pub(crate) fn search(
     plan: Plan,
     choices: &mut [u8],
 ) -> Answer
-    requires { ⌜ Searched (bookOf clusters (now map) (now configs) (now symbols) (now ready)) (now scan) (now source) (now «inv_qm») (now levels) plan ⌝ }
+    requires { ⌜ Searched (bookIn (now map) (now configs) (now symbols) (now ready)) (now scan) (now source) (now «inv_qm») (now levels) plan ⌝ }
     requires { ⌜ 6 * plan .window .length ≤ length (now choices) ⌝ }
     ensures { λ r. ⌜ length (now (choices .exit)) ≡ length (now (choices .entry)) ⌝ }
-    ensures { λ r. ⌜ ((w : Searched (bookOf clusters (now (map .entry)) (now (configs .entry)) (now (symbols .entry)) (now (ready .entry))) (now (scan .entry)) (now (source .entry)) (now («inv_qm» .entry)) (now (levels .entry)) plan)
-        → (r ≡ answered (plan .window) (bookOf clusters (now (map .entry)) (now (configs .entry)) (now (symbols .entry)) (now (ready .entry))) (w .block)) × (now (levels .exit) ≡ written (plan .window) (bookOf clusters (now (map .entry)) (now (configs .entry)) (now (symbols .entry)) (now (ready .entry))) (w .block))) ⌝ }
+    ensures { λ r. ⌜ ((w : Searched (bookIn (now (map .entry)) (now (configs .entry)) (now (symbols .entry)) (now (ready .entry))) (now (scan .entry)) (now (source .entry)) (now («inv_qm» .entry)) (now (levels .entry)) plan)
+        → (r ≡ answered (plan .window) (bookIn (now (map .entry)) (now (configs .entry)) (now (symbols .entry)) (now (ready .entry))) (w .block)) × (now (levels .exit) ≡ written (plan .window) (bookIn (now (map .entry)) (now (configs .entry)) (now (symbols .entry)) (now (ready .entry))) (w .block))) ⌝ }
 {
-    let start = start::start_of(clusters, map, configs, symbols, ready, plan, scan, levels);
+    let start = start::start_of(map, configs, symbols, ready, plan, scan, levels);
     let window = plan.window;
     let middle = window.length / 2;
     let later = positions::take_positions(
-        clusters,
         map,
         configs,
         symbols,
@@ -99,7 +97,6 @@ pub(crate) fn search(
         choices,
     );
     let kept = positions::take_positions(
-        clusters,
         map,
         configs,
         symbols,
@@ -114,6 +111,6 @@ pub(crate) fn search(
         later,
         choices,
     );
-    let best = ending::best_path(clusters, map, configs, symbols, ready, plan, kept);
+    let best = ending::best_path(map, configs, symbols, ready, plan, kept);
     write_found(scan, source, inv_qm, levels, plan, choices, kept, best)
 }

@@ -11,7 +11,7 @@ ghost use Prim.Native.Nat.{_≤_};
 ghost use lib.IntN.{pos};
 ghost use lib.ListN.{length, getD};
 ghost use Rattle.least_cost.specs.Position.{Position};
-ghost use Rattle.prices.specs.Book.{bookOf};
+ghost use Rattle.prices.specs.Book.{bookIn};
 ghost use Rattle.beam_paths.specs.Path.{Path, ways as waysBy};
 ghost use Rattle.beam_paths.specs.Step.{extended, countsNamed, mergedAt, kept as cheapest};
 ghost use Rattle.beam_paths.specs.Held.{PathsFor};
@@ -20,20 +20,17 @@ ghost use Rattle.beam_row.specs.Held.{spotOf, Stands, Takeable, Taken};
 
 // A sole candidate: every path takes it.
 fn extend(
-    clusters: u32,
     map: &[u8],
     configs: &[u8],
     symbols: &[f32],
     ready: &[f32],
     place: Place,
     levels: &[i32; 5],
-    count: usize,
     paths: Paths,
 ) -> Kept
-    requires { ⌜ Takeable (bookOf clusters (now map) (now configs) (now symbols) (now ready)) (spotOf place count (now levels)) paths ⌝ }
-    requires { ⌜ count ≡ 1 ⌝ }
+    requires { ⌜ Takeable (bookIn (now map) (now configs) (now symbols) (now ready)) (spotOf place 1 (now levels)) paths ⌝ }
     ensures { λ r. ⌜ r .count ≤ 3 ⌝ }
-    ensures { λ r. ⌜ ((q : Position) (xs : List Path) → Stands (bookOf clusters (now (map .entry)) (now (configs .entry)) (now (symbols .entry)) (now (ready .entry))) (spotOf place count (now (levels .entry))) q → PathsFor xs paths
+    ensures { λ r. ⌜ ((q : Position) (xs : List Path) → Stands (bookIn (now (map .entry)) (now (configs .entry)) (now (symbols .entry)) (now (ready .entry))) (spotOf place 1 (now (levels .entry))) q → PathsFor xs paths
         → KeptIs q xs (extended q (getD (q .candidates) 0 (pos 0)) xs) r) ⌝ }
 {
     let distortion = place.distortion(levels[0]);
@@ -42,7 +39,6 @@ fn extend(
     let mut j = 0;
     while j < paths.count {
         kept = kept.push(ways::extend_path(
-            clusters,
             map,
             configs,
             symbols,
@@ -61,7 +57,6 @@ fn extend(
 
 // Several candidates: paths that reach one count merge, and the cheapest three stay.
 fn merge(
-    clusters: u32,
     map: &[u8],
     configs: &[u8],
     symbols: &[f32],
@@ -71,9 +66,9 @@ fn merge(
     count: usize,
     paths: Paths,
 ) -> Kept
-    requires { ⌜ Takeable (bookOf clusters (now map) (now configs) (now symbols) (now ready)) (spotOf place count (now levels)) paths ⌝ }
+    requires { ⌜ Takeable (bookIn (now map) (now configs) (now symbols) (now ready)) (spotOf place count (now levels)) paths ⌝ }
     ensures { λ r. ⌜ r .count ≤ 3 ⌝ }
-    ensures { λ r. ⌜ ((q : Position) (xs : List Path) → Stands (bookOf clusters (now (map .entry)) (now (configs .entry)) (now (symbols .entry)) (now (ready .entry))) (spotOf place count (now (levels .entry))) q → PathsFor xs paths
+    ensures { λ r. ⌜ ((q : Position) (xs : List Path) → Stands (bookIn (now (map .entry)) (now (configs .entry)) (now (symbols .entry)) (now (ready .entry))) (spotOf place count (now (levels .entry))) q → PathsFor xs paths
         → KeptIs q xs (cheapest (mergedAt q (waysBy xs (q .candidates)) (countsNamed [] xs))) r) ⌝ }
 {
     let mut distortion = [0.0f32; 5];
@@ -85,7 +80,6 @@ fn merge(
     let mut d = 0;
     while d < counts.length {
         let entry = ways::merge_count(
-            clusters,
             map,
             configs,
             symbols,
@@ -107,7 +101,6 @@ fn merge(
 
 // From the paths behind a position to the paths from it on. The first `count` of `levels` are its candidates.
 pub fn take_step(
-    clusters: u32,
     map: &[u8],
     configs: &[u8],
     symbols: &[f32],
@@ -117,33 +110,13 @@ pub fn take_step(
     count: usize,
     paths: Paths,
 ) -> Step
-    requires { ⌜ Takeable (bookOf clusters (now map) (now configs) (now symbols) (now ready)) (spotOf place count (now levels)) paths ⌝ }
-    ensures { λ r. ⌜ Taken (bookOf clusters (now (map .entry)) (now (configs .entry)) (now (symbols .entry)) (now (ready .entry))) (spotOf place count (now (levels .entry))) paths r ⌝ }
+    requires { ⌜ Takeable (bookIn (now map) (now configs) (now symbols) (now ready)) (spotOf place count (now levels)) paths ⌝ }
+    ensures { λ r. ⌜ Taken (bookIn (now (map .entry)) (now (configs .entry)) (now (symbols .entry)) (now (ready .entry))) (spotOf place count (now (levels .entry))) paths r ⌝ }
 {
     if count == 1 {
-        let kept = extend(
-            clusters,
-            map,
-            configs,
-            symbols,
-            ready,
-            place,
-            levels,
-            count,
-            paths,
-        );
+        let kept = extend(map, configs, symbols, ready, place, levels, paths);
         return kept.step();
     }
-    let kept = merge(
-        clusters,
-        map,
-        configs,
-        symbols,
-        ready,
-        place,
-        levels,
-        count,
-        paths,
-    );
+    let kept = merge(map, configs, symbols, ready, place, levels, count, paths);
     kept.step()
 }

@@ -10,7 +10,7 @@ ghost use lib.ListN.{getD};
 ghost use Rattle.ac_context.specs.Contexts.{Coefficient, Covered};
 ghost use Rattle.bias.specs.Level.{isLevel};
 ghost use Rattle.least_cost.specs.Position.{Position};
-ghost use Rattle.prices.specs.Book.{bookOf};
+ghost use Rattle.prices.specs.Book.{bookIn};
 ghost use Rattle.prices.specs.Checks.{bookRefusal};
 ghost use Rattle.steps.specs.Place.{distortionAt, contextAt};
 ghost use Rattle.beam_paths.specs.Path.{Path, Way, waysOf, ways};
@@ -22,7 +22,6 @@ ghost use Rattle.beam_row.specs.Entries.{gathered, Priced, PathIs, Leads
 
 // One candidate more. Both values of `prev` are priced together, and each keeps its own best.
 fn try_way(
-    clusters: u32,
     map: &[u8],
     configs: &[u8],
     symbols: &[f32],
@@ -35,21 +34,12 @@ fn try_way(
     choice: u32,
     entry: Entry,
 ) -> Entry
-    requires { ⌜ bookRefusal (bookOf clusters (now map) (now configs) (now symbols) (now ready)) ≡ 0 ⌝ }
+    requires { ⌜ bookRefusal (bookIn (now map) (now configs) (now symbols) (now ready)) ≡ 0 ⌝ }
     requires { ⌜ (context + 1 < 14850) × T (isLevel level) ⌝ }
     requires { ⌜ distortion ≡ distortionAt place level ⌝ }
-    ensures { λ r. ⌜ r ≡ tried (bookOf clusters (now (map .entry)) (now (configs .entry)) (now (symbols .entry)) (now (ready .entry))) place context level tail choice entry ⌝ }
+    ensures { λ r. ⌜ r ≡ tried (bookIn (now (map .entry)) (now (configs .entry)) (now (symbols .entry)) (now (ready .entry))) place context level tail choice entry ⌝ }
 {
-    let pair = place.local_pair(
-        clusters,
-        map,
-        configs,
-        symbols,
-        ready,
-        context,
-        level,
-        distortion,
-    );
+    let pair = place.local_pair(map, configs, symbols, ready, context, level, distortion);
     let first = entry.first;
     let second = entry.second;
     Entry {
@@ -61,7 +51,6 @@ fn try_way(
 
 // The candidates of one kind, 0 or nonzero, in front of path j: those that lead it to the entry's count.
 fn try_levels(
-    clusters: u32,
     map: &[u8],
     configs: &[u8],
     symbols: &[f32],
@@ -76,11 +65,11 @@ fn try_levels(
     j: usize,
     entry: Entry,
 ) -> Entry
-    requires { ⌜ Priced (bookOf clusters (now map) (now configs) (now symbols) (now ready)) place count (now levels) (now distortion) ⌝ }
+    requires { ⌜ Priced (bookIn (now map) (now configs) (now symbols) (now ready)) place count (now levels) (now distortion) ⌝ }
     requires { ⌜ (context ≡ contextAt place (entry .remaining)) × (context + 1 < 14850) ⌝ }
     requires { ⌜ j < 3 ⌝ }
     ensures { λ r. ⌜ r .remaining ≡ entry .remaining ⌝ }
-    ensures { λ r. ⌜ ((q : Position) (xs : List Path) (ws : List Way) → Stands (bookOf clusters (now (map .entry)) (now (configs .entry)) (now (symbols .entry)) (now (ready .entry))) (spotOf place count (now (levels .entry))) q → Leads xs j nonzero tail (entry .remaining)
+    ensures { λ r. ⌜ ((q : Position) (xs : List Path) (ws : List Way) → Stands (bookIn (now (map .entry)) (now (configs .entry)) (now (symbols .entry)) (now (ready .entry))) (spotOf place count (now (levels .entry))) q → Leads xs j nonzero tail (entry .remaining)
         → BothOf q xs ws entry → BothOf q xs (ws ++ waysOf (getD xs j noPath) (q .candidates)) r) ⌝ }
 {
     let mut best = entry;
@@ -89,7 +78,6 @@ fn try_levels(
         let level = levels[i];
         if steps::nonzero(level) == nonzero {
             best = try_way(
-                clusters,
                 map,
                 configs,
                 symbols,
@@ -110,7 +98,6 @@ fn try_levels(
 
 // The candidates in front of path j, where it leads to the entry's count.
 fn try_path(
-    clusters: u32,
     map: &[u8],
     configs: &[u8],
     symbols: &[f32],
@@ -126,16 +113,15 @@ fn try_path(
     j: usize,
     entry: Entry,
 ) -> Entry
-    requires { ⌜ Priced (bookOf clusters (now map) (now configs) (now symbols) (now ready)) place count (now levels) (now distortion) ⌝ }
+    requires { ⌜ Priced (bookIn (now map) (now configs) (now symbols) (now ready)) place count (now levels) (now distortion) ⌝ }
     requires { ⌜ (context ≡ contextAt place (entry .remaining)) × (context + 1 < 14850) ⌝ }
     requires { ⌜ (remaining < 65536) × (j < 3) ⌝ }
     ensures { λ r. ⌜ r .remaining ≡ entry .remaining ⌝ }
-    ensures { λ r. ⌜ ((q : Position) (xs : List Path) (ws : List Way) → Stands (bookOf clusters (now (map .entry)) (now (configs .entry)) (now (symbols .entry)) (now (ready .entry))) (spotOf place count (now (levels .entry))) q → PathIs xs j remaining first second
+    ensures { λ r. ⌜ ((q : Position) (xs : List Path) (ws : List Way) → Stands (bookIn (now (map .entry)) (now (configs .entry)) (now (symbols .entry)) (now (ready .entry))) (spotOf place count (now (levels .entry))) q → PathIs xs j remaining first second
         → BothOf q xs ws entry → BothOf q xs (ws ++ waysOf (getD xs j noPath) (q .candidates)) r) ⌝ }
 {
     if remaining == entry.remaining {
         return try_levels(
-            clusters,
             map,
             configs,
             symbols,
@@ -153,7 +139,6 @@ fn try_path(
     }
     if remaining + 1 == entry.remaining {
         return try_levels(
-            clusters,
             map,
             configs,
             symbols,
@@ -174,7 +159,6 @@ fn try_path(
 
 // The path of count n: for either `prev` the first least of the ways that reach it.
 pub(crate) fn merge_count(
-    clusters: u32,
     map: &[u8],
     configs: &[u8],
     symbols: &[f32],
@@ -188,10 +172,10 @@ pub(crate) fn merge_count(
     costs: &[f32],
     n: usize,
 ) -> Entry
-    requires { ⌜ Takeable (bookOf clusters (now map) (now configs) (now symbols) (now ready)) (spotOf place count (now levels)) (gathered paths (now remaining) (now costs)) ⌝ }
-    requires { ⌜ Priced (bookOf clusters (now map) (now configs) (now symbols) (now ready)) place count (now levels) (now distortion) ⌝ }
+    requires { ⌜ Takeable (bookIn (now map) (now configs) (now symbols) (now ready)) (spotOf place count (now levels)) (gathered paths (now remaining) (now costs)) ⌝ }
+    requires { ⌜ Priced (bookIn (now map) (now configs) (now symbols) (now ready)) place count (now levels) (now distortion) ⌝ }
     requires { ⌜ n + place .k ≤ 64 * place .covered ⌝ }
-    ensures { λ r. ⌜ ((q : Position) (xs : List Path) → Stands (bookOf clusters (now (map .entry)) (now (configs .entry)) (now (symbols .entry)) (now (ready .entry))) (spotOf place count (now (levels .entry))) q → PathsFor xs (gathered paths (now (remaining .entry)) (now (costs .entry)))
+    ensures { λ r. ⌜ ((q : Position) (xs : List Path) → Stands (bookIn (now (map .entry)) (now (configs .entry)) (now (symbols .entry)) (now (ready .entry))) (spotOf place count (now (levels .entry))) q → PathsFor xs (gathered paths (now (remaining .entry)) (now (costs .entry)))
         → EntryIs q xs (merged q (ways xs (q .candidates)) n) r) ⌝ }
 {
     let context = place.context(n);
@@ -207,7 +191,6 @@ pub(crate) fn merge_count(
     let mut j = 0;
     while j < paths {
         entry = try_path(
-            clusters,
             map,
             configs,
             symbols,
@@ -230,7 +213,6 @@ pub(crate) fn merge_count(
 
 // Path j with the sole candidate, which `remaining` counts too.
 pub(crate) fn extend_path(
-    clusters: u32,
     map: &[u8],
     configs: &[u8],
     symbols: &[f32],
@@ -242,24 +224,15 @@ pub(crate) fn extend_path(
     tail: f32,
     j: usize,
 ) -> Entry
-    requires { ⌜ bookRefusal (bookOf clusters (now map) (now configs) (now symbols) (now ready)) ≡ 0 ⌝ }
+    requires { ⌜ bookRefusal (bookIn (now map) (now configs) (now symbols) (now ready)) ≡ 0 ⌝ }
     requires { ⌜ T (isLevel level) × (distortion ≡ distortionAt place level) ⌝ }
     requires { ⌜ Covered (place .covered) (place .log2) × (place .offset + 457 < 14850) ⌝ }
     requires { ⌜ (0 < remaining → Coefficient (place .covered) remaining (place .k) 0) ⌝ }
     requires { ⌜ j < 3 ⌝ }
-    ensures { λ r. ⌜ r ≡ alone (bookOf clusters (now (map .entry)) (now (configs .entry)) (now (symbols .entry)) (now (ready .entry))) place remaining level tail (16 * j) ⌝ }
+    ensures { λ r. ⌜ r ≡ alone (bookIn (now (map .entry)) (now (configs .entry)) (now (symbols .entry)) (now (ready .entry))) place remaining level tail (16 * j) ⌝ }
 {
     let context = place.context(remaining);
-    let pair = place.local_pair(
-        clusters,
-        map,
-        configs,
-        symbols,
-        ready,
-        context,
-        level,
-        distortion,
-    );
+    let pair = place.local_pair(map, configs, symbols, ready, context, level, distortion);
     let choice = (16 * j) as u32;
     Entry {
         remaining,

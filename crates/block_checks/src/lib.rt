@@ -7,6 +7,7 @@ ghost use mathlib.Core.Bool.{true, _&&_};
 ghost use Prim.Native.Nat.{_+_, _*_, _≤_};
 ghost use lib.Dec.{eqb, leb};
 ghost use lib.IntN.{pos};
+ghost use lib.Ieee.{Float};
 ghost use lib.ListN.{length, getD};
 ghost use Rattle.ac_context.specs.Contexts.{isPowerBelow};
 ghost use Rattle.block.specs.Block.{blockOf, covered, idealAt};
@@ -189,13 +190,12 @@ fn check_form(
     shape: Shape,
     settings: Settings,
     bias: DequantBias,
-    scale: f32,
     scan: &[u32],
     source: &[f32],
     inv_qm: &[f32],
     levels: &[i32],
 ) -> u32
-    ensures { λ r. ⌜ r ≡ formRefusal (blockOf shape settings bias scale (now (scan .entry)) (now (source .entry)) (now («inv_qm» .entry)) (now (levels .entry))) ⌝ }
+    ensures { λ r. ⌜ ((scale : Float) → r ≡ formRefusal (blockOf shape settings bias scale (now (scan .entry)) (now (source .entry)) (now («inv_qm» .entry)) (now (levels .entry)))) ⌝ }
 {
     let cx = shape.cx;
     let cy = shape.cy;
@@ -276,7 +276,7 @@ pub fn check_block(
 ) -> u32
     ensures { λ r. ⌜ (let b = blockOf shape settings bias scale (now (scan .entry)) (now (source .entry)) (now («inv_qm» .entry)) (now (levels .entry)) in r ≡ blockRefusal width (windowFor cap (covered b)) b 0) ⌝ }
 {
-    let first = check_form(shape, settings, bias, scale, scan, source, inv_qm, levels);
+    let first = check_form(shape, settings, bias, scan, source, inv_qm, levels);
     if first != 0 {
         return first;
     }

@@ -10,10 +10,9 @@ ghost use Rattle.book_build.specs.Paint.{paint};
 ghost use Rattle.book_build.specs.Fill.{readyEntry, filledReady};
 ghost use Rattle.book_build.specs.Prefix.{prefixOf, depthPrice, trained, unseenPrice, singleOf, prefixEntry, rowEntry, prefixRefusal, prefixSymbols};
 
-fn write_ready(clusters: usize, configs: &[u8], symbols: &[f32], ready: &mut [f32])
-    requires { ⌜ ((k : ℕ) → k < clusters → Row (now configs) (now symbols) (now ready) k) ⌝ }
-    requires { ⌜ length (now ready) ≡ 256 * clusters ⌝ }
-    ensures { λ r. ⌜ now (ready .exit) ≡ paint (readyEntry (now (configs .entry)) (now (symbols .entry))) 0 (256 * clusters) (now (ready .entry)) ⌝ }
+fn write_ready(configs: &[u8], symbols: &[f32], ready: &mut [f32])
+    requires { ⌜ ((k : ℕ) → 256 * k < length (now ready) → Row (now configs) (now symbols) (now ready) k) ⌝ }
+    ensures { λ r. ⌜ now (ready .exit) ≡ paint (readyEntry (now (configs .entry)) (now (symbols .entry))) 0 (length (now (ready .entry))) (now (ready .entry)) ⌝ }
 {
     let end = ready.len();
     let mut i = 0;
@@ -35,11 +34,11 @@ pub fn fill_ready(
     ensures { λ r. ⌜ r ≡ fillRefusal (bookOf clusters (now (map .entry)) (now (configs .entry)) (now (symbols .entry)) (now (ready .entry))) ⌝ }
     ensures { λ r. ⌜ now (ready .exit) ≡ filledReady (bookOf clusters (now (map .entry)) (now (configs .entry)) (now (symbols .entry)) (now (ready .entry))) ⌝ }
 {
-    let five = book_checks::check_five(clusters, map, configs, symbols, ready);
+    let five = book_checks::check_one_to_five(clusters, map, configs, symbols, ready);
     if five != 0 {
         return five;
     }
-    write_ready(clusters as usize, configs, symbols, ready);
+    write_ready(configs, symbols, ready);
     0
 }
 

@@ -108,7 +108,13 @@ pub fn check_lengths(
 }
 
 // The number of the first check among 1 to 5 that a book fails, or 0.
-pub fn check_five(clusters: u32, map: &[u8], configs: &[u8], symbols: &[f32], ready: &[f32]) -> u32
+pub fn check_one_to_five(
+    clusters: u32,
+    map: &[u8],
+    configs: &[u8],
+    symbols: &[f32],
+    ready: &[f32],
+) -> u32
     ensures { λ r. ⌜ r ≡ fillRefusal (bookOf clusters (now (map .entry)) (now (configs .entry)) (now (symbols .entry)) (now (ready .entry))) ⌝ }
 {
     let two = check_lengths(clusters, map, configs, symbols, ready);
@@ -131,7 +137,7 @@ pub fn check_five(clusters: u32, map: &[u8], configs: &[u8], symbols: &[f32], re
 pub fn check_book(clusters: u32, map: &[u8], configs: &[u8], symbols: &[f32], ready: &[f32]) -> u32
     ensures { λ r. ⌜ r ≡ bookRefusal (bookOf clusters (now (map .entry)) (now (configs .entry)) (now (symbols .entry)) (now (ready .entry))) ⌝ }
 {
-    let five = check_five(clusters, map, configs, symbols, ready);
+    let five = check_one_to_five(clusters, map, configs, symbols, ready);
     if five != 0 {
         return five;
     }

@@ -1,5 +1,5 @@
 -- The pass over the whole window, and what the call answers. Assumes nothing.
-use mathlib.Core.Path.{_≡_, refl, ap, _∙_, subst⁻¹}
+use mathlib.Core.Path.{_≡_, refl, sym, ap, _∙_, subst⁻¹}
 use mathlib.Core.Bool.{true}
 use mathlib.Core.List.{List}
 use Prim.Native.Nat.{ℕ, suc, _+_, _-_, _*_, _≤_, _<_}
@@ -17,6 +17,7 @@ use Rattle.block_checks.specs.Passed.{Passed}
 use Rattle.block_checks.proofs.Laws.{passed}
 use Rattle.prices.specs.Book.{Book}
 use Rattle.prices.specs.Checks.{bookRefusal}
+use Rattle.prices.proofs.Passed.{listed, by-lists}
 use Rattle.problem.proofs.Refusals.{searched}
 use Rattle.scan.specs.Scan.{Perm}
 use Rattle.search_checks.specs.Checked.{Checked}
@@ -155,9 +156,13 @@ settled-outcome v book {b} {p} {levels} {count} w ev el ec =
     let found : levels ≡ greedyLevels v book b = rw ev at el in
     rw (← found) (ap (λ (n : ℕ). outcomeOf (Count n) levels) (ec ∙ rw (w .covered-is)))
 
-pub let-pass : (w : ℕ) (v : Window) (book : Book) (b : Block) → refusal w v book b ≡ 0 → {after : Outcome} → after ≡ searchedOutcome v book b → after ≡ greedyOutcome w v book b
+same-book : (w : ℕ) (v : Window) (book : Book) (b : Block) → refusal w v book b ≡ 0 → book ≡ listed book
+unfolding refusal
+same-book w v book b none = by-lists book (searched w v book b true none .0)
+
+pub let-pass : (w : ℕ) (v : Window) (book : Book) (b : Block) → refusal w v book b ≡ 0 → {after : Outcome} → after ≡ searchedOutcome v (listed book) b → after ≡ greedyOutcome w v book b
 unfolding greedyOutcome
-let-pass w v book b none e = rw (eq-eqb (refusal w v book b) 0 none) e
+let-pass w v book b none e = rw (eq-eqb (refusal w v book b) 0 none) (e ∙ ap (λ (k : Book). searchedOutcome v k b) (sym (same-book w v book b none)))
 
 pub by-check : (w : ℕ) (v : Window) (book : Book) (b : Block) {n : ℕ} → n ≡ searchRefusal w v book b (enoughRoom 0 0 (v .length) 0 0 0) → n ≡ refusal w v book b
 unfolding refusal

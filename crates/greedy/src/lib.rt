@@ -8,14 +8,13 @@ use weights::SearchSettings;
 use weights::Settings;
 ghost use mathlib.Core.Path.{_≡_};
 ghost use Rattle.block.specs.Block.{blockOf, covered};
-ghost use Rattle.prices.specs.Book.{bookOf};
+ghost use Rattle.prices.specs.Book.{bookOf, bookIn};
 ghost use Rattle.search_checks.specs.Checked.{Accepted};
 ghost use Rattle.weights.specs.Window.{windowFor};
 ghost use Rattle.greedy.specs.Greedy.{outcomeOf, searchedOutcome, Promised};
 
 // The search alone, of a block that passed its checks: a window of at most `cap` positions.
 pub fn search_greedy(
-    clusters: u32,
     map: &[u8],
     configs: &[u8],
     symbols: &[f32],
@@ -30,13 +29,12 @@ pub fn search_greedy(
     levels: &mut [i32],
     cap: usize,
 ) -> Answer
-    requires { ⌜ (let b = blockOf shape settings bias scale (now scan) (now source) (now «inv_qm») (now levels) in Accepted (windowFor cap (covered b)) (bookOf clusters (now map) (now configs) (now symbols) (now ready)) b) ⌝ }
+    requires { ⌜ (let b = blockOf shape settings bias scale (now scan) (now source) (now «inv_qm») (now levels) in Accepted (windowFor cap (covered b)) (bookIn (now map) (now configs) (now symbols) (now ready)) b) ⌝ }
     ensures { λ r. ⌜ (let b = blockOf shape settings bias scale (now (scan .entry)) (now (source .entry)) (now («inv_qm» .entry)) (now (levels .entry)) in
-        outcomeOf r (now (levels .exit)) ≡ searchedOutcome (windowFor cap (covered b)) (bookOf clusters (now (map .entry)) (now (configs .entry)) (now (symbols .entry)) (now (ready .entry))) b) ⌝ }
+        outcomeOf r (now (levels .exit)) ≡ searchedOutcome (windowFor cap (covered b)) (bookIn (now (map .entry)) (now (configs .entry)) (now (symbols .entry)) (now (ready .entry))) b) ⌝ }
 {
     let plan = steps::reading::plan_of(shape, settings, bias, scale, cap);
     let count = pass::settle(
-        clusters,
         map,
         configs,
         symbols,
@@ -99,7 +97,6 @@ pub fn rdoq_block_greedy(
         return Answer::Refused(refusal);
     }
     search_greedy(
-        clusters,
         map,
         configs,
         symbols,

@@ -14,7 +14,7 @@ ghost use Rattle.block.specs.Block.{Block, covered as coveredBy};
 ghost use Rattle.candidates.specs.Candidates.{isCurrent};
 ghost use Rattle.greedy_cost.specs.Run.{Windowed};
 ghost use Rattle.least_cost.specs.Position.{nz};
-ghost use Rattle.prices.specs.Book.{bookOf};
+ghost use Rattle.prices.specs.Book.{bookIn};
 ghost use Rattle.prices.specs.Checks.{bookRefusal};
 ghost use Rattle.scan.specs.Scan.{Perm, levelAt};
 ghost use Rattle.steps.specs.Plan.{Planned, Coded, Lists};
@@ -54,7 +54,6 @@ fn front(scan: &[u32], levels: &[i32], covered: usize, i: usize) -> usize
 
 // The price of the zeros that a nonzero level would have coded in front of it.
 fn run_bits(
-    clusters: u32,
     map: &[u8],
     configs: &[u8],
     symbols: &[f32],
@@ -65,23 +64,22 @@ fn run_bits(
     i: usize,
     later: usize,
 ) -> f32
-    requires { ⌜ bookRefusal (bookOf clusters (now map) (now configs) (now symbols) (now ready)) ≡ 0 ⌝ }
+    requires { ⌜ bookRefusal (bookIn (now map) (now configs) (now symbols) (now ready)) ≡ 0 ⌝ }
     requires { ⌜ Coded plan ⌝ }
     requires { ⌜ Windowed (plan .covered) i (now scan) (now levels) ⌝ }
     requires { ⌜ plan .covered + i < 64 * plan .covered ⌝ }
     ensures { λ r. ⌜ ((b : Block) → now (scan .entry) ≡ b .scan → now (levels .entry) ≡ b .levels → Planned b plan → later ≡ inputAfter b i
-        → r ≡ runOf (bookOf clusters (now (map .entry)) (now (configs .entry)) (now (symbols .entry)) (now (ready .entry))) b i) ⌝ }
+        → r ≡ runOf (bookIn (now (map .entry)) (now (configs .entry)) (now (symbols .entry)) (now (ready .entry))) b i) ⌝ }
 {
     if later > 0 {
         return 0.0;
     }
     let start = run::run_start(scan, levels, plan.covered, i);
-    run::zeros(clusters, map, configs, symbols, ready, plan, start, i)
+    run::zeros(map, configs, symbols, ready, plan, start, i)
 }
 
 // The level that window position i takes.
 fn choice(
-    clusters: u32,
     map: &[u8],
     configs: &[u8],
     symbols: &[f32],
@@ -94,14 +92,14 @@ fn choice(
     i: usize,
     counts: Counts,
 ) -> i32
-    requires { ⌜ bookRefusal (bookOf clusters (now map) (now configs) (now symbols) (now ready)) ≡ 0 ⌝ }
+    requires { ⌜ bookRefusal (bookIn (now map) (now configs) (now symbols) (now ready)) ≡ 0 ⌝ }
     requires { ⌜ Coded plan ⌝ }
     requires { ⌜ Fitting plan ⌝ }
     requires { ⌜ Ready plan (now scan) (now source) (now «inv_qm») (now levels) (plan .covered + i + 1) ⌝ }
     requires { ⌜ i < plan .window .length ⌝ }
     requires { ⌜ (counts .later ≡ countFrom (now scan) (now levels) (plan .covered) (plan .covered + i + 1)) × (counts .total ≡ countFrom (now scan) (now levels) (plan .covered) (plan .covered)) ⌝ }
     ensures { λ r. ⌜ ((b : Block) → Lists b (now (scan .entry)) (now (source .entry)) (now («inv_qm» .entry)) (now (levels .entry)) → Planned b plan
-        → r ≡ chosen (plan .window) (bookOf clusters (now (map .entry)) (now (configs .entry)) (now (symbols .entry)) (now (ready .entry))) b i) ⌝ }
+        → r ≡ chosen (plan .window) (bookIn (now (map .entry)) (now (configs .entry)) (now (symbols .entry)) (now (ready .entry))) b i) ⌝ }
     ensures { λ r. ⌜ T (isLevel r) ⌝ }
 {
     let mut offered = [0i32; 5];
@@ -113,7 +111,6 @@ fn choice(
     let place = plan.place(i, offer.ideal, current);
     let front = front(scan, levels, plan.covered, i);
     let run = run_bits(
-        clusters,
         map,
         configs,
         symbols,
@@ -131,7 +128,6 @@ fn choice(
         run,
     };
     cost::cheapest(
-        clusters,
         map,
         configs,
         symbols,
@@ -161,7 +157,6 @@ fn write(scan: &[u32], levels: &mut [i32], k: usize, level: i32) -> usize
 
 // Settles window position i.
 fn step(
-    clusters: u32,
     map: &[u8],
     configs: &[u8],
     symbols: &[f32],
@@ -174,19 +169,18 @@ fn step(
     i: usize,
     counts: Counts,
 ) -> Counts
-    requires { ⌜ bookRefusal (bookOf clusters (now map) (now configs) (now symbols) (now ready)) ≡ 0 ⌝ }
+    requires { ⌜ bookRefusal (bookIn (now map) (now configs) (now symbols) (now ready)) ≡ 0 ⌝ }
     requires { ⌜ Coded plan ⌝ }
     requires { ⌜ Fitting plan ⌝ }
     requires { ⌜ Ready plan (now scan) (now source) (now «inv_qm») (now levels) (plan .covered + i + 1) ⌝ }
     requires { ⌜ i < plan .window .length ⌝ }
     requires { ⌜ (counts .later ≡ countFrom (now scan) (now levels) (plan .covered) (plan .covered + i + 1)) × (counts .total ≡ countFrom (now scan) (now levels) (plan .covered) (plan .covered)) ⌝ }
     ensures { λ r. ⌜ ((b : Block) → Lists b (now (scan .entry)) (now (source .entry)) (now («inv_qm» .entry)) (now (levels .entry)) → Planned b plan
-        → now (levels .exit) ≡ settledAt (plan .window) (bookOf clusters (now (map .entry)) (now (configs .entry)) (now (symbols .entry)) (now (ready .entry))) b i) ⌝ }
+        → now (levels .exit) ≡ settledAt (plan .window) (bookIn (now (map .entry)) (now (configs .entry)) (now (symbols .entry)) (now (ready .entry))) b i) ⌝ }
     ensures { λ r. ⌜ Ready plan (now (scan .entry)) (now (source .entry)) (now («inv_qm» .entry)) (now (levels .exit)) (plan .covered + i) ⌝ }
     ensures { λ r. ⌜ (r .later ≡ countFrom (now (scan .entry)) (now (levels .exit)) (plan .covered) (plan .covered + i)) × (r .total ≡ countFrom (now (scan .entry)) (now (levels .exit)) (plan .covered) (plan .covered)) ⌝ }
 {
     let level = choice(
-        clusters,
         map,
         configs,
         symbols,
@@ -223,7 +217,6 @@ fn counts_of(scan: &[u32], levels: &[i32], covered: usize, window: usize) -> Cou
 
 // The whole pass. The count of nonzero levels from scan position c on.
 pub(crate) fn settle(
-    clusters: u32,
     map: &[u8],
     configs: &[u8],
     symbols: &[f32],
@@ -234,12 +227,12 @@ pub(crate) fn settle(
     inv_qm: &[f32],
     levels: &mut [i32],
 ) -> usize
-    requires { ⌜ bookRefusal (bookOf clusters (now map) (now configs) (now symbols) (now ready)) ≡ 0 ⌝ }
+    requires { ⌜ bookRefusal (bookIn (now map) (now configs) (now symbols) (now ready)) ≡ 0 ⌝ }
     requires { ⌜ Coded plan ⌝ }
     requires { ⌜ Fitting plan ⌝ }
     requires { ⌜ Ready plan (now scan) (now source) (now «inv_qm») (now levels) (64 * plan .covered) ⌝ }
     ensures { λ r. ⌜ ((b : Block) → Lists b (now (scan .entry)) (now (source .entry)) (now («inv_qm» .entry)) (now (levels .entry)) → Planned b plan
-        → now (levels .exit) ≡ greedyLevels (plan .window) (bookOf clusters (now (map .entry)) (now (configs .entry)) (now (symbols .entry)) (now (ready .entry))) b) ⌝ }
+        → now (levels .exit) ≡ greedyLevels (plan .window) (bookIn (now (map .entry)) (now (configs .entry)) (now (symbols .entry)) (now (ready .entry))) b) ⌝ }
     ensures { λ r. ⌜ r ≡ countFrom (now (scan .entry)) (now (levels .exit)) (plan .covered) (plan .covered) ⌝ }
 {
     let window = plan.window;
@@ -248,7 +241,6 @@ pub(crate) fn settle(
     while 0 < i {
         i -= 1;
         counts = step(
-            clusters,
             map,
             configs,
             symbols,

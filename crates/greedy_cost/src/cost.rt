@@ -10,7 +10,7 @@ ghost use Rattle.bias.specs.Level.{isLevel};
 ghost use Rattle.block.specs.Block.{Block};
 ghost use Rattle.candidates.specs.Candidates.{inArray};
 ghost use Rattle.least_cost.specs.Search.{holder};
-ghost use Rattle.prices.specs.Book.{bookOf};
+ghost use Rattle.prices.specs.Book.{bookIn};
 ghost use Rattle.prices.specs.Checks.{bookRefusal};
 ghost use Rattle.steps.specs.Place.{placeOf};
 ghost use Rattle.steps.specs.Plan.{Planned, Coded, Usable, listed};
@@ -59,7 +59,6 @@ fn prev_at(covered: usize, i: usize, front: usize, count: usize) -> usize
 
 // The bits of a level, `remaining` counting it and all nonzero levels behind it.
 fn bits(
-    clusters: u32,
     map: &[u8],
     configs: &[u8],
     symbols: &[f32],
@@ -71,17 +70,16 @@ fn bits(
     run: f32,
     level: i32,
 ) -> f32
-    requires { ⌜ bookRefusal (bookOf clusters (now map) (now configs) (now symbols) (now ready)) ≡ 0 ⌝ }
+    requires { ⌜ bookRefusal (bookIn (now map) (now configs) (now symbols) (now ready)) ≡ 0 ⌝ }
     requires { ⌜ Coded plan ⌝ }
     requires { ⌜ (remaining + (plan .covered + i) ≤ 64 * plan .covered) × (prev ≤ 1) ⌝ }
     requires { ⌜ T (isLevel level) ⌝ }
-    ensures { λ r. ⌜ ((b : Block) → Planned b plan → r ≡ bitsOf (bookOf clusters (now (map .entry)) (now (configs .entry)) (now (symbols .entry)) (now (ready .entry))) b i remaining prev run level) ⌝ }
+    ensures { λ r. ⌜ ((b : Block) → Planned b plan → r ≡ bitsOf (bookIn (now (map .entry)) (now (configs .entry)) (now (symbols .entry)) (now (ready .entry))) b i remaining prev run level) ⌝ }
 {
     if remaining == 0 {
         return 0.0;
     }
     let token = steps::tokens::token_bits(
-        clusters,
         map,
         configs,
         symbols,
@@ -100,7 +98,6 @@ fn bits(
 
 // What a candidate costs.
 fn candidate_cost(
-    clusters: u32,
     map: &[u8],
     configs: &[u8],
     symbols: &[f32],
@@ -111,18 +108,17 @@ fn candidate_cost(
     around: Around,
     level: i32,
 ) -> f32
-    requires { ⌜ bookRefusal (bookOf clusters (now map) (now configs) (now symbols) (now ready)) ≡ 0 ⌝ }
+    requires { ⌜ bookRefusal (bookIn (now map) (now configs) (now symbols) (now ready)) ≡ 0 ⌝ }
     requires { ⌜ Coded plan ⌝ }
     requires { ⌜ (around .later + 1 + (plan .covered + i) ≤ 64 * plan .covered) × ((around .others < 64 * plan .covered) × (around .front ≤ 1)) ⌝ }
     requires { ⌜ T (isLevel level) ⌝ }
     ensures { λ r. ⌜ ((b : Block) → Planned b plan → place ≡ placeOf b (plan .log2) i
-        → r ≡ costOf (bookOf clusters (now (map .entry)) (now (configs .entry)) (now (symbols .entry)) (now (ready .entry))) b i (around .later) (around .others) (around .front) (around .run) level) ⌝ }
+        → r ≡ costOf (bookIn (now (map .entry)) (now (configs .entry)) (now (symbols .entry)) (now (ready .entry))) b i (around .later) (around .others) (around .front) (around .run) level) ⌝ }
 {
     let nonzero = steps::nonzero(level);
     let count = around.others + nonzero;
     let prev = prev_at(plan.covered, i, around.front, count);
     let bits = bits(
-        clusters,
         map,
         configs,
         symbols,
@@ -136,13 +132,12 @@ fn candidate_cost(
     );
     let distortion = place.distortion(level);
     let rated = place.rate(level) * bits;
-    let counted = steps::tokens::count_cost(clusters, map, configs, symbols, ready, plan, count);
+    let counted = steps::tokens::count_cost(map, configs, symbols, ready, plan, count);
     distortion + rated + counted
 }
 
 // The first of the cheapest candidates; the current level where no cost is finite.
 pub fn cheapest(
-    clusters: u32,
     map: &[u8],
     configs: &[u8],
     symbols: &[f32],
@@ -155,13 +150,13 @@ pub fn cheapest(
     around: Around,
     current: i32,
 ) -> i32
-    requires { ⌜ bookRefusal (bookOf clusters (now map) (now configs) (now symbols) (now ready)) ≡ 0 ⌝ }
+    requires { ⌜ bookRefusal (bookIn (now map) (now configs) (now symbols) (now ready)) ≡ 0 ⌝ }
     requires { ⌜ Coded plan ⌝ }
     requires { ⌜ (around .later + 1 + (plan .covered + i) ≤ 64 * plan .covered) × ((around .others < 64 * plan .covered) × (around .front ≤ 1)) ⌝ }
     requires { ⌜ Usable (inArray count (now levels)) ⌝ }
     requires { ⌜ T (isLevel current) ⌝ }
     ensures { λ r. ⌜ ((b : Block) → Planned b plan → place ≡ placeOf b (plan .log2) i
-        → r ≡ holder (costOf (bookOf clusters (now (map .entry)) (now (configs .entry)) (now (symbols .entry)) (now (ready .entry))) b i (around .later) (around .others) (around .front) (around .run)) (inf false) current (listed (inArray count (now (levels .entry))))) ⌝ }
+        → r ≡ holder (costOf (bookIn (now (map .entry)) (now (configs .entry)) (now (symbols .entry)) (now (ready .entry))) b i (around .later) (around .others) (around .front) (around .run)) (inf false) current (listed (inArray count (now (levels .entry))))) ⌝ }
     ensures { λ r. ⌜ T (isLevel r) ⌝ }
 {
     let mut best = Best {
@@ -171,18 +166,7 @@ pub fn cheapest(
     let mut j = 0;
     while j < count {
         let level = levels[j];
-        let cost = candidate_cost(
-            clusters,
-            map,
-            configs,
-            symbols,
-            ready,
-            plan,
-            place,
-            i,
-            around,
-            level,
-        );
+        let cost = candidate_cost(map, configs, symbols, ready, plan, place, i, around, level);
         best = best.consider(cost, level);
         j += 1;
     }

@@ -3,7 +3,7 @@ use steps::reading::Plan;
 ghost use mathlib.Core.Path.{_≡_};
 ghost use Prim.Native.Nat.{_+_, _-_, _*_, _<_, _≤_};
 ghost use Rattle.block.specs.Block.{Block};
-ghost use Rattle.prices.specs.Book.{bookOf};
+ghost use Rattle.prices.specs.Book.{bookIn};
 ghost use Rattle.prices.specs.Checks.{bookRefusal};
 ghost use Rattle.steps.specs.Plan.{Planned, Coded};
 ghost use Rattle.greedy_cost.specs.Run.{none, runStart, zerosFrom, Windowed};
@@ -26,7 +26,6 @@ pub fn run_start(scan: &[u32], levels: &[i32], covered: usize, i: usize) -> usiz
 // The prices of their tokens, summed front to back. The first has `prev` 1: a nonzero level stands before it, or it is the first
 // position and the whole count is 1.
 pub fn zeros(
-    clusters: u32,
     map: &[u8],
     configs: &[u8],
     symbols: &[f32],
@@ -35,17 +34,16 @@ pub fn zeros(
     start: usize,
     end: usize,
 ) -> f32
-    requires { ⌜ bookRefusal (bookOf clusters (now map) (now configs) (now symbols) (now ready)) ≡ 0 ⌝ }
+    requires { ⌜ bookRefusal (bookIn (now map) (now configs) (now symbols) (now ready)) ≡ 0 ⌝ }
     requires { ⌜ Coded plan ⌝ }
     requires { ⌜ (start ≤ end) × (plan .covered + end < 64 * plan .covered) ⌝ }
-    ensures { λ r. ⌜ ((b : Block) → Planned b plan → r ≡ zerosFrom (bookOf clusters (now (map .entry)) (now (configs .entry)) (now (symbols .entry)) (now (ready .entry))) b (end - start) start 1 none) ⌝ }
+    ensures { λ r. ⌜ ((b : Block) → Planned b plan → r ≡ zerosFrom (bookIn (now (map .entry)) (now (configs .entry)) (now (symbols .entry)) (now (ready .entry))) b (end - start) start 1 none) ⌝ }
 {
     let mut sum = 0.0f32;
     let mut prev = 1;
     let mut j = start;
     while j < end {
         sum += steps::tokens::token_bits(
-            clusters,
             map,
             configs,
             symbols,

@@ -13,7 +13,7 @@ ghost use lib.Ieee.{Float};
 ghost use lib.ListN.{length, getD};
 ghost use Rattle.block.specs.Block.{blockOf, covered};
 ghost use Rattle.block.specs.Outcome.{lentOf, resultOf};
-ghost use Rattle.prices.specs.Book.{bookOf};
+ghost use Rattle.prices.specs.Book.{bookIn};
 ghost use Rattle.prices.specs.Checks.{bookRefusal};
 ghost use Rattle.searches.specs.Outcome.{searchOutcome};
 ghost use Rattle.group_list.specs.Heads.{headAt, blocksIn, PlacedAt};
@@ -24,7 +24,6 @@ ghost use Rattle.group_block.specs.Part.{part, inPlace, Stepped};
 // Searches the block whose numbers are the n from `at` on.
 fn search_part(
     search: Search,
-    clusters: u32,
     map: &[u8],
     configs: &[u8],
     symbols: &[f32],
@@ -44,17 +43,16 @@ fn search_part(
     at: usize,
     n: usize,
 ) -> Answer
-    requires { ⌜ bookRefusal (bookOf clusters (now map) (now configs) (now symbols) (now ready)) ≡ 0 ⌝ }
+    requires { ⌜ bookRefusal (bookIn (now map) (now configs) (now symbols) (now ready)) ≡ 0 ⌝ }
     requires { ⌜ (at + n ≤ length (now scans)) × ((at + n ≤ length (now sources)) × ((at + n ≤ length (now «inv_qms»)) × (at + n ≤ length (now levels)))) ⌝ }
     ensures { λ r. ⌜ (let b = blockOf shape settings bias scale (part at n (now (scans .entry))) (part at n (now (sources .entry))) (part at n (now («inv_qms» .entry))) (part at n (now (levels .entry))) in
         resultOf r (now (levels .exit)) (now (choices .exit)) (now («row_a» .exit)) (now («row_b» .exit))
-        ≡ inPlace at n (now (levels .entry)) (searchOutcome width (windowOf (covered b)) search (bookOf clusters (now (map .entry)) (now (configs .entry)) (now (symbols .entry)) (now (ready .entry))) b
+        ≡ inPlace at n (now (levels .entry)) (searchOutcome width (windowOf (covered b)) search (bookIn (now (map .entry)) (now (configs .entry)) (now (symbols .entry)) (now (ready .entry))) b
         (lentOf (part at n (now (levels .entry))) (now (choices .entry)) (now («row_a» .entry)) (now («row_b» .entry))))) ⌝ }
 {
     let end = at + n;
     searches::rdoq_block_checked(
         search,
-        clusters,
         map,
         configs,
         symbols,
@@ -149,7 +147,6 @@ fn width_at(words: &[u32], i: usize) -> u32
 // Searches block i with the count predicted for it. Its n numbers of each list start at `at`.
 fn search_at(
     search: Search,
-    clusters: u32,
     map: &[u8],
     configs: &[u8],
     symbols: &[f32],
@@ -168,13 +165,13 @@ fn search_at(
     n: usize,
     predicted: u8,
 ) -> Answer
-    requires { ⌜ (bookRefusal (bookOf clusters (now map) (now configs) (now symbols) (now ready)) ≡ 0)
+    requires { ⌜ (bookRefusal (bookIn (now map) (now configs) (now symbols) (now ready)) ≡ 0)
         × ((i < blocksIn (now words)) × ((getD (now words) (8 * i + 5) 0 ≤ 2) × (7 * i + 7 ≤ length (now reals)))) ⌝ }
     requires { ⌜ (at + n ≤ length (now scans)) × ((at + n ≤ length (now sources)) × ((at + n ≤ length (now «inv_qms»)) × (at + n ≤ length (now levels)))) ⌝ }
     ensures { λ r. ⌜ (let h = headAt (now (words .entry)) (now (reals .entry)) i in
         let b = blockOf (shapeOf h predicted) (settingsOf h) (biasOf h) (h .scale) (part at n (now (scans .entry))) (part at n (now (sources .entry))) (part at n (now («inv_qms» .entry))) (part at n (now (levels .entry))) in
         resultOf r (now (levels .exit)) (now (choices .exit)) (now («row_a» .exit)) (now («row_b» .exit))
-        ≡ inPlace at n (now (levels .entry)) (searchOutcome (h .halfWidth) (windowOf (covered b)) search (bookOf clusters (now (map .entry)) (now (configs .entry)) (now (symbols .entry)) (now (ready .entry))) b
+        ≡ inPlace at n (now (levels .entry)) (searchOutcome (h .halfWidth) (windowOf (covered b)) search (bookIn (now (map .entry)) (now (configs .entry)) (now (symbols .entry)) (now (ready .entry))) b
         (lentOf (part at n (now (levels .entry))) (now (choices .entry)) (now («row_a» .entry)) (now («row_b» .entry))))) ⌝ }
 {
     let shape = shape_at(words, i, predicted);
@@ -184,7 +181,6 @@ fn search_at(
     let width = width_at(words, i);
     search_part(
         search,
-        clusters,
         map,
         configs,
         symbols,
@@ -209,7 +205,6 @@ fn search_at(
 // Settles block i, whose n numbers of each list start at `at`: searched with the count that the cells predict, it writes its own count into its cells.
 pub fn settle_block(
     search: Search,
-    clusters: u32,
     map: &[u8],
     configs: &[u8],
     symbols: &[f32],
@@ -228,11 +223,11 @@ pub fn settle_block(
     at: usize,
     n: usize,
 ) -> Answer
-    requires { ⌜ (bookRefusal (bookOf clusters (now map) (now configs) (now symbols) (now ready)) ≡ 0)
+    requires { ⌜ (bookRefusal (bookIn (now map) (now configs) (now symbols) (now ready)) ≡ 0)
         × ((i < blocksIn (now words)) × (PlacedAt (now words) i × ((7 * i + 7 ≤ length (now reals)) × ((length (now cells) ≡ 3072)
         × (n ≡ 64 * (getD (now words) (8 * i + 2) 0 * getD (now words) (8 * i + 3) 0)))))) ⌝ }
     requires { ⌜ (at + n ≤ length (now scans)) × ((at + n ≤ length (now sources)) × ((at + n ≤ length (now «inv_qms»)) × (at + n ≤ length (now levels)))) ⌝ }
-    ensures { λ r. ⌜ Stepped search (bookOf clusters (now (map .entry)) (now (configs .entry)) (now (symbols .entry)) (now (ready .entry)))
+    ensures { λ r. ⌜ Stepped search (bookIn (now (map .entry)) (now (configs .entry)) (now (symbols .entry)) (now (ready .entry)))
         (headAt (now (words .entry)) (now (reals .entry)) i)
         (record { scans = now (scans .entry); sources = now (sources .entry); inverses = now («inv_qms» .entry); levels = now (levels .entry) }) at (now (levels .entry))
         (record { choices = now (choices .entry); rowA = now («row_a» .entry); rowB = now («row_b» .entry) }) (now (cells .entry))
@@ -241,7 +236,6 @@ pub fn settle_block(
     let predicted = group_counts::predicted_at(cells, words, i);
     let answer = search_at(
         search,
-        clusters,
         map,
         configs,
         symbols,

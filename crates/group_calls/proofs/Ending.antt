@@ -1,5 +1,5 @@
 -- How a call over a list ends: refused by the book, refused by the list, or run. Assumes nothing.
-use mathlib.Core.Path.{_≡_, sym, ap, _∙_}
+use mathlib.Core.Path.{_≡_, sym, ap, _∙_, subst⁻¹}
 use mathlib.Core.List.{List}
 use Prim.Native.Nat.{ℕ}
 use borrow.Author.Tests.{eq-eqb, ne-eqb}
@@ -14,6 +14,7 @@ use Rattle.group_run.specs.declared.Group.the-variants.{Stopped}
 use Rattle.group_run.proofs.Main.{promised, refused-before, runs}
 use Rattle.prices.specs.Book.{Book}
 use Rattle.prices.specs.Checks.{bookRefusal}
+use Rattle.prices.proofs.Passed.{listed, by-lists}
 use Rattle.searches.specs.declared.Search.{Search}
 use Rattle.group_calls.specs.Ran.{Ran}
 
@@ -39,7 +40,8 @@ module _ (s : Search) (book : Book) (words : List ℕ) (reals : List Float) (g :
     pub refused-by-list : {n : ℕ} → n ≡ listRefusal words reals → (n ≡ 0 → ⊥) → Promised s book words reals g room (Stopped n 0) (lentWith (g .levels) room)
     refused-by-list e k = refused-by (e ∙ sym (by-list book words reals ok)) k
 
-    pub ran : listRefusal words reals ≡ 0 → {answer : Group} {after : Lent} → Ran s book words reals g room answer after → Promised s book words reals g room answer after
-    ran none R =
+    pub ran : listRefusal words reals ≡ 0 → {answer : Group} {after : Lent} → Ran s (listed book) words reals g room answer after → Promised s book words reals g room answer after
+    ran none {answer} {after} Q =
+        let R = subst⁻¹ (λ (k : Book). Ran s k words reals g room answer after) (by-lists book ok) Q in
         let o = runs s book words reals g room (by-list book words reals ok ∙ none) in
         promised s book words reals g room (sym (R .answer-is) ∙ sym (ap (λ (r : Run). r .answer) o)) (sym (R .lent-is) ∙ sym (ap (λ (r : Run). r .lent) o))

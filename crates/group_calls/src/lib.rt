@@ -10,7 +10,7 @@ ghost use Rattle.block.specs.Outcome.{lentOf};
 ghost use Rattle.group_cells.specs.Grid.{Grid};
 ghost use Rattle.group_list.specs.Checks.{listRefusal};
 ghost use Rattle.group_run.specs.Demand.{Promised};
-ghost use Rattle.prices.specs.Book.{bookOf};
+ghost use Rattle.prices.specs.Book.{bookOf, bookIn};
 ghost use Rattle.prices.specs.Checks.{bookRefusal};
 ghost use Rattle.group_calls.specs.Ran.{Ran};
 
@@ -34,7 +34,6 @@ fn enough(at: usize, n: usize, scans: usize, sources: usize, inv_qms: usize, lev
 // Settles the blocks of a list that passed its checks, with a book that did, until one is refused. `cells` are all 0.
 fn run_list(
     search: Search,
-    clusters: u32,
     map: &[u8],
     configs: &[u8],
     symbols: &[f32],
@@ -50,9 +49,9 @@ fn run_list(
     row_b: &mut [f32],
     cells: &mut [u8],
 ) -> Group
-    requires { ⌜ bookRefusal (bookOf clusters (now map) (now configs) (now symbols) (now ready)) ≡ 0 ⌝ }
+    requires { ⌜ bookRefusal (bookIn (now map) (now configs) (now symbols) (now ready)) ≡ 0 ⌝ }
     requires { ⌜ (listRefusal (now words) (now reals) ≡ 0) × Grid [] (now cells) ⌝ }
-    ensures { λ r. ⌜ Ran search (bookOf clusters (now (map .entry)) (now (configs .entry)) (now (symbols .entry)) (now (ready .entry))) (now (words .entry)) (now (reals .entry))
+    ensures { λ r. ⌜ Ran search (bookIn (now (map .entry)) (now (configs .entry)) (now (symbols .entry)) (now (ready .entry))) (now (words .entry)) (now (reals .entry))
         (record { scans = now (scans .entry); sources = now (sources .entry); inverses = now («inv_qms» .entry); levels = now (levels .entry) })
         (record { choices = now (choices .entry); rowA = now («row_a» .entry); rowB = now («row_b» .entry) })
         r (lentOf (now (levels .exit)) (now (choices .exit)) (now («row_a» .exit)) (now («row_b» .exit))) ⌝ }
@@ -77,7 +76,6 @@ fn run_list(
         }
         let answer = group_block::settle_block(
             search,
-            clusters,
             map,
             configs,
             symbols,
@@ -149,7 +147,6 @@ pub fn rdoq_group(
     let mut cells = [0u8; 3072];
     run_list(
         search,
-        clusters,
         map,
         configs,
         symbols,

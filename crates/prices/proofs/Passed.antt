@@ -1,5 +1,5 @@
 -- What a book that passes checks 1 to 6 has, entry by entry.
-use Prim.Native.Nat.{ℕ, suc, _+_, _*_, _<_, _≤_}
+use Prim.Native.Nat.{ℕ, suc, _+_, _*_, _/_, _<_, _≤_}
 use mathlib.Core.Path.{_≡_, refl, sym, ap, _∙_}
 use mathlib.Core.Bool.{Bool, true, false, cond, _&&_}
 use mathlib.Core.List.{List}
@@ -10,8 +10,8 @@ use lib.Ieee.{Float, fits, binary32, toBits, ofBits}
 use lib.Ieee.Bits.{ofBits-toBits}
 use lib.Ieee.Fits.{add-fits}
 use borrow.Author.Tests.{eqb-true, eqb-false, leb-true, ltb-true}
-use Rattle.prices.specs.Book.{Book, at, clusterValid, clusterPrice, price}
-use Rattle.prices.specs.Checks.{symbolPrice, sameBits, check1, check2, check3, check4, check5, check6, mapBelow, allPriced, rowKept, firstTwo, firstFive, fillRefusal, bookRefusal, Priced}
+use Rattle.prices.specs.Book.{Book, bookOf, bookIn, at, clusterValid, clusterPrice, price}
+use Rattle.prices.specs.Checks.{symbolPrice, sameBits, check1, check2, check3, check4, check5, check6, mapBelow, allPriced, rowKept, firstTwo, firstFive, fillRefusal, bookRefusal, ClusterPassed}
 use Rattle.prices.proofs.Each.{both, each-below}
 
 -- checks 1 to 5
@@ -154,8 +154,20 @@ passed b e =
           (each-below (rowKept (b .configs) (b .symbols) (b .ready)) (b .clusters) rows k h) v i;
     }
 
+-- a book that passes them is the book of its lists
+abbrev pub listed : Book → Book
+listed b = bookIn (b .map) (b .configs) (b .symbols) (b .ready)
+
+pub by-lists : (b : Book) → bookRefusal b ≡ 0 → b ≡ listed b
+by-lists b e =
+    let number : b .clusters ≡ length (b .configs) / 3 = omega (arith, passed b e .sound .configs-long) in
+    ap (λ (n : ℕ). bookOf n (b .map) (b .configs) (b .symbols) (b .ready)) number
+
+pub listed-passed : (b : Book) → bookRefusal b ≡ 0 → bookRefusal (listed b) ≡ 0
+listed-passed b e = ap bookRefusal (sym (by-lists b e)) ∙ e
+
 -- a cluster of a book that passes them
-pub priced-in : {b : Book} {k : ℕ} → Passed b → k < b .clusters → Priced (b .configs) (b .symbols) (b .ready) k
+pub priced-in : {b : Book} {k : ℕ} → Passed b → k < b .clusters → ClusterPassed (b .configs) (b .symbols) (b .ready) k
 priced-in {b} {k} p h =
     record {
       few = omega (arith, h, p .sound .few);

@@ -1,10 +1,10 @@
 -- The price book, and the price of a value in a context (document 01, module 4).
-use Prim.Native.Nat.{ℕ, _+_, _*_}
+use Prim.Native.Nat.{ℕ, _+_, _*_, _/_}
 use mathlib.Core.List.{List}
 use mathlib.Core.Bool.{Bool, false, cond}
 use lib.Dec.{ltb}
 use lib.IntN.{pos}
-use lib.ListN.{getD}
+use lib.ListN.{length, getD}
 use lib.Ieee.{Float, nan, inf, add, ofInt, binary32}
 use Rattle.packing.specs.Hybrid.{symbolOf, extraBitsOf, validConfig}
 
@@ -18,6 +18,10 @@ pub record Book : Type 0 where
 
 abbrev pub bookOf : ℕ → List ℕ → List ℕ → List Float → List Float → Book
 bookOf n map configs symbols ready = record { clusters = n; map = map; configs = configs; symbols = symbols; ready = ready }
+
+-- The book of such lists as check 2 makes them, three bytes of configuration a cluster. A book that passed its checks is that book (`by-lists` in proofs/Passed), so that nothing below the checks is handed the number of clusters.
+abbrev pub bookIn : List ℕ → List ℕ → List Float → List Float → Book
+bookIn map configs symbols ready = bookOf (length configs / 3) map configs symbols ready
 
 -- the entry at i of a list of prices
 abbrev pub at : List Float → ℕ → Float

@@ -55,7 +55,7 @@ unfoldable pub rowKept : List ℕ → List Float → List Float → ℕ → Bool
 rowKept configs symbols ready k = each 256 (λ v. sameBits (at ready (256 * k + v)) (clusterPrice configs symbols k v))
 
 -- what the checks say of one cluster: its bytes and prices are there, its configuration is valid, its ready prices are its prices
-pub record Priced (configs : List ℕ) (symbols ready : List Float) (k : ℕ) : Type 0 where
+pub record ClusterPassed (configs : List ℕ) (symbols ready : List Float) (k : ℕ) : Type 0 where
   pub few : k < 256
   pub configs-long : 3 * k + 2 < length configs
   pub symbols-long : 128 * k + 127 < length symbols

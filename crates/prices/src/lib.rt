@@ -6,8 +6,8 @@ ghost use mathlib.Core.Path.{_≡_};
 ghost use mathlib.Core.Bool.{true};
 ghost use Prim.Native.Nat.{_≤_, _<_, _+_, _*_};
 ghost use lib.ListN.{length, getD};
-ghost use Rattle.prices.specs.Book.{bookOf, price, symbolAt, clusterPrice, clusterValid, clusterSymbol, clusterExtra};
-ghost use Rattle.prices.specs.Checks.{bookRefusal, Priced};
+ghost use Rattle.prices.specs.Book.{bookIn, price, symbolAt, clusterPrice, clusterValid, clusterSymbol, clusterExtra};
+ghost use Rattle.prices.specs.Checks.{bookRefusal, ClusterPassed};
 
 // The prices of a value in two contexts.
 pub struct Pair {
@@ -72,7 +72,7 @@ pub fn cluster_bits(
     cluster: usize,
     value: u32,
 ) -> f32
-    requires { ⌜ Priced (now configs) (now symbols) (now ready) cluster ⌝ }
+    requires { ⌜ ClusterPassed (now configs) (now symbols) (now ready) cluster ⌝ }
     requires { ⌜ value ≤ 131071 ⌝ }
     ensures { λ r. ⌜ r ≡ clusterPrice (now (configs .entry)) (now (symbols .entry)) cluster value ⌝ }
 {
@@ -84,7 +84,6 @@ pub fn cluster_bits(
 
 // The price of a value in a context.
 pub fn token_bits(
-    clusters: u32,
     map: &[u8],
     configs: &[u8],
     symbols: &[f32],
@@ -92,10 +91,10 @@ pub fn token_bits(
     context: usize,
     value: u32,
 ) -> f32
-    requires { ⌜ bookRefusal (bookOf clusters (now map) (now configs) (now symbols) (now ready)) ≡ 0 ⌝ }
+    requires { ⌜ bookRefusal (bookIn (now map) (now configs) (now symbols) (now ready)) ≡ 0 ⌝ }
     requires { ⌜ context < 14850 ⌝ }
     requires { ⌜ value ≤ 131071 ⌝ }
-    ensures { λ r. ⌜ r ≡ price (bookOf clusters (now (map .entry)) (now (configs .entry)) (now (symbols .entry)) (now (ready .entry))) context value ⌝ }
+    ensures { λ r. ⌜ r ≡ price (bookIn (now (map .entry)) (now (configs .entry)) (now (symbols .entry)) (now (ready .entry))) context value ⌝ }
 {
     let cluster = map[context] as usize;
     cluster_bits(configs, symbols, ready, cluster, value)
@@ -103,7 +102,6 @@ pub fn token_bits(
 
 // The prices of a value in a context and the next one: the two `prev` contexts of a coefficient.
 pub fn token_bits_pair(
-    clusters: u32,
     map: &[u8],
     configs: &[u8],
     symbols: &[f32],
@@ -111,14 +109,14 @@ pub fn token_bits_pair(
     context: usize,
     value: u32,
 ) -> Pair
-    requires { ⌜ bookRefusal (bookOf clusters (now map) (now configs) (now symbols) (now ready)) ≡ 0 ⌝ }
+    requires { ⌜ bookRefusal (bookIn (now map) (now configs) (now symbols) (now ready)) ≡ 0 ⌝ }
     requires { ⌜ context < 14849 ⌝ }
     requires { ⌜ value ≤ 131071 ⌝ }
-    ensures { λ r. ⌜ r .first ≡ price (bookOf clusters (now (map .entry)) (now (configs .entry)) (now (symbols .entry)) (now (ready .entry))) context value ⌝ }
-    ensures { λ r. ⌜ r .second ≡ price (bookOf clusters (now (map .entry)) (now (configs .entry)) (now (symbols .entry)) (now (ready .entry))) (context + 1) value ⌝ }
+    ensures { λ r. ⌜ r .first ≡ price (bookIn (now (map .entry)) (now (configs .entry)) (now (symbols .entry)) (now (ready .entry))) context value ⌝ }
+    ensures { λ r. ⌜ r .second ≡ price (bookIn (now (map .entry)) (now (configs .entry)) (now (symbols .entry)) (now (ready .entry))) (context + 1) value ⌝ }
 {
     Pair {
-        first: token_bits(clusters, map, configs, symbols, ready, context, value),
-        second: token_bits(clusters, map, configs, symbols, ready, context + 1, value),
+        first: token_bits(map, configs, symbols, ready, context, value),
+        second: token_bits(map, configs, symbols, ready, context + 1, value),
     }
 }

@@ -96,11 +96,14 @@ module _ {book : Book} {scan : List ℕ} {source inverse : List Float} {levels :
   pub window-fits : plan .covered + plan .window .length ≤ length scan
   window-fits = omega (arith, ap length (s .lists .scan-is), s .checked .planned .covered-is, scan-long, s .checked .passed .window .fits)
 
+  pub readable-of : (i : ℕ) → i < plan .window .length → Readable scan source inverse levels (plan .scale) (plan .covered + i)
+  readable-of i h = let l = s .lists in rw (l .scan-is, l .source-is, l .inverse-is, l .levels-is) (readable-here (s .checked) i h)
+
   pub whole-past : Whole (plan .covered) (plan .covered + plan .window .length) scan levels
   whole-past =
       rw (s .lists .scan-is, s .lists .levels-is, s .checked .planned .covered-is)
       (whole (s .checked .passed) (covered (s .block) + plan .window .length) (omega arith))
 
 -- a block that passed, as its own
-pub searched-of : {book : Book} (b : Block) {p : Plan} → Checked book b p → Searched book (b .scan) (b .source) (b .inverse) (b .levels) p
+abbrev pub searched-of : {book : Book} (b : Block) {p : Plan} → Checked book b p → Searched book (b .scan) (b .source) (b .inverse) (b .levels) p
 searched-of b K = record { block = b; lists = own-lists b; checked = K }

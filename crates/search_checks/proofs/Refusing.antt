@@ -1,5 +1,5 @@
 -- What the checks of a search let pass. Assumes nothing.
-use mathlib.Core.Path.{_≡_, refl, sym, ap, _∙_, subst⁻¹}
+use mathlib.Core.Path.{_≡_, refl, sym, ap, _∙_, subst, subst⁻¹}
 use mathlib.Core.Bool.{Bool, true, false, cond, _&&_}
 use Prim.Native.Nat.{ℕ, _*_, _≤_, _<_}
 use lib.Dec.{leb, leb→le, leb·zero}
@@ -9,6 +9,7 @@ use Rattle.block_checks.proofs.Laws.{passed, width-few}
 use Rattle.block_checks.specs.Passed.{Passed}
 use Rattle.laws.proofs.Tests.{and-left, and-right}
 use Rattle.prices.specs.Book.{Book}
+use Rattle.prices.proofs.Passed.{listed, by-lists}
 use Rattle.problem.proofs.Refusals.{searched, searched-width}
 use Rattle.steps.specs.Plan.{Planned, Coded}
 use Rattle.steps.specs.declared.reading.Plan.{Plan}
@@ -22,6 +23,10 @@ module _ (w cap : ℕ) (book : Book) (b : Block) (room : Bool) (none : searchRef
   accepted some =
       let s = searched w _ book b room none in
       record { book-passed = s .0; passed = passed w cap b some (s .1 .0) }
+
+  -- .. by the book's lists
+  pub accepted-listed : 0 < cap → Accepted (windowFor cap (covered b)) (listed book) b
+  accepted-listed some = subst (λ (k : Book). Accepted (windowFor cap (covered b)) k b) (by-lists book (searched w _ book b room none .0)) (accepted some)
 
   pub accepted-room : room ≡ true
   accepted-room = searched w _ book b room none .1 .1

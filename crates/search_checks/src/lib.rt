@@ -14,7 +14,7 @@ ghost use Rattle.weights.specs.Window.{windowFor};
 
 // The checks of a block and of its room, with a band of half-width `width` and a window of at most `cap` positions: the number of the first that fails, or 0. The search asks for `bytes` choice bytes a
 // position and `floats` costs in each row; of the room only the lengths count.
-pub fn check_searched(
+pub fn check_block_and_room(
     shape: Shape,
     settings: Settings,
     bias: DequantBias,
@@ -91,7 +91,7 @@ pub fn check_search(
     if book != 0 {
         return book;
     }
-    check_searched(
+    check_block_and_room(
         shape,
         settings,
         bias,

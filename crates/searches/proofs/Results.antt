@@ -22,6 +22,7 @@ use Rattle.greedy.specs.Greedy as Greedy
 use Rattle.greedy.proofs.Choosing as GreedyChoosing
 use Rattle.prices.specs.Book.{Book}
 use Rattle.prices.specs.Checks.{bookRefusal}
+use Rattle.prices.proofs.Passed.{listed, by-lists}
 use Rattle.problem.proofs.Refusals.{width-free}
 use Rattle.search_checks.proofs.Refusing.{no-rows, room-of, accepted, accepted-room, accepted-width}
 use Rattle.trellis.specs.Outcome as Trellis
@@ -174,6 +175,10 @@ module _ (w : ℕ) (v : Window) (book : Book) (b : Block) (within : (n : ℕ) �
 
   pub promised : (search : Search) {after : Result} → after ≡ searchOutcome w v search book b l → PromisedIn w v search book b l after
   promised search e = subst⁻¹ (PromisedIn w v search book b l) e (met search)
+
+-- ---- what is promised of a book that passed, by its lists
+pub from-lists : {w : ℕ} {v : Window} {search : Search} (book : Book) {b : Block} {l : Lent} {r : Result} → bookRefusal book ≡ 0 → PromisedIn w v search (listed book) b l r → PromisedIn w v search book b l r
+from-lists {w} {v} {search} book {b} {l} {r} ok P = subst⁻¹ (λ (k : Book). PromisedIn w v search k b l r) (by-lists book ok) P
 
 -- ---- document 01's window
 pub whole : {w : ℕ} {search : Search} {book : Book} {b : Block} {l : Lent} {r : Result} → PromisedIn w (windowFor 1024 (covered b)) search book b l r → Promised w search book b l r

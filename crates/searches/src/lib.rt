@@ -9,7 +9,7 @@ ghost use Prim.Native.Nat.{_≤_, _<_};
 ghost use Rattle.block.specs.Block.{blockOf, covered};
 ghost use Rattle.block.specs.Checks.{choiceBytes, states};
 ghost use Rattle.block.specs.Outcome.{lentOf, resultOf};
-ghost use Rattle.prices.specs.Book.{bookOf};
+ghost use Rattle.prices.specs.Book.{bookOf, bookIn};
 ghost use Rattle.prices.specs.Checks.{bookRefusal};
 ghost use Rattle.weights.specs.Window.{windowFor};
 ghost use Rattle.searches.specs.Outcome.{PromisedIn, Promised, askedBy, searchedOutcome};
@@ -61,7 +61,6 @@ fn asked_by(search: Search, width: u32) -> Asked
 // The search that is named, of a block that passed its checks.
 fn search_block(
     search: Search,
-    clusters: u32,
     map: &[u8],
     configs: &[u8],
     symbols: &[f32],
@@ -81,15 +80,14 @@ fn search_block(
     cap: usize,
 ) -> Answer
     requires { ⌜ (let b = blockOf shape settings bias scale (now scan) (now source) (now «inv_qm») (now levels) in let v = windowFor cap (covered b) in Searchable width v search
-        (bookOf clusters (now map) (now configs) (now symbols) (now ready)) b (lentOf (now levels) (now choices) (now «row_a») (now «row_b»))) ⌝ }
+        (bookIn (now map) (now configs) (now symbols) (now ready)) b (lentOf (now levels) (now choices) (now «row_a») (now «row_b»))) ⌝ }
     ensures { λ r. ⌜ (let b = blockOf shape settings bias scale (now (scan .entry)) (now (source .entry)) (now («inv_qm» .entry)) (now (levels .entry)) in
         resultOf r (now (levels .exit)) (now (choices .exit)) (now («row_a» .exit)) (now («row_b» .exit))
-        ≡ searchedOutcome width (windowFor cap (covered b)) search (bookOf clusters (now (map .entry)) (now (configs .entry)) (now (symbols .entry)) (now (ready .entry))) b
+        ≡ searchedOutcome width (windowFor cap (covered b)) search (bookIn (now (map .entry)) (now (configs .entry)) (now (symbols .entry)) (now (ready .entry))) b
         (lentOf (now (levels .entry)) (now (choices .entry)) (now («row_a» .entry)) (now («row_b» .entry)))) ⌝ }
 {
     match search {
         Search::Greedy => greedy::search_greedy(
-            clusters,
             map,
             configs,
             symbols,
@@ -106,7 +104,6 @@ fn search_block(
         ),
         Search::Beam => {
             let answer = beam::search_beam(
-                clusters,
                 map,
                 configs,
                 symbols,
@@ -128,7 +125,6 @@ fn search_block(
         }
         Search::Trellis => trellis::search_banded(
             true,
-            clusters,
             map,
             configs,
             symbols,
@@ -149,7 +145,6 @@ fn search_block(
         ),
         Search::Unfactored => trellis::search_banded(
             false,
-            clusters,
             map,
             configs,
             symbols,
@@ -174,7 +169,6 @@ fn search_block(
 // The checks of the block, then the search that is named, with a band of half-width `width` and a window of at most `cap` positions; of a book that passed checks 1 to 6.
 pub fn rdoq_block_checked(
     search: Search,
-    clusters: u32,
     map: &[u8],
     configs: &[u8],
     symbols: &[f32],
@@ -193,14 +187,14 @@ pub fn rdoq_block_checked(
     width: u32,
     cap: usize,
 ) -> Answer
-    requires { ⌜ (0 < cap) × (bookRefusal (bookOf clusters (now map) (now configs) (now symbols) (now ready)) ≡ 0) ⌝ }
+    requires { ⌜ (0 < cap) × (bookRefusal (bookIn (now map) (now configs) (now symbols) (now ready)) ≡ 0) ⌝ }
     ensures { λ r. ⌜ (let b = blockOf shape settings bias scale (now (scan .entry)) (now (source .entry)) (now («inv_qm» .entry)) (now (levels .entry)) in PromisedIn width (windowFor cap (covered b)) search
-        (bookOf clusters (now (map .entry)) (now (configs .entry)) (now (symbols .entry)) (now (ready .entry))) b
+        (bookIn (now (map .entry)) (now (configs .entry)) (now (symbols .entry)) (now (ready .entry))) b
         (lentOf (now (levels .entry)) (now (choices .entry)) (now («row_a» .entry)) (now («row_b» .entry)))
         (resultOf r (now (levels .exit)) (now (choices .exit)) (now («row_a» .exit)) (now («row_b» .exit)))) ⌝ }
 {
     let asked = asked_by(search, width);
-    let refusal = search_checks::check_searched(
+    let refusal = search_checks::check_block_and_room(
         shape,
         settings,
         bias,
@@ -222,7 +216,6 @@ pub fn rdoq_block_checked(
     }
     search_block(
         search,
-        clusters,
         map,
         configs,
         symbols,
@@ -277,7 +270,6 @@ pub fn rdoq_block_in(
     }
     rdoq_block_checked(
         search,
-        clusters,
         map,
         configs,
         symbols,

@@ -3,7 +3,7 @@ use mathlib.Core.Path.{_≡_, refl, sym, ap, _∙_, subst⁻¹}
 use mathlib.Core.Bool.{Bool, true, false, cond}
 use mathlib.Core.List.{List}
 use Prim.Native.Nat.{ℕ, zero, suc, _+_, _-_, _*_, _/_, _≤_, _<_}
-use native.Mathlib.Nat.{suc-mul, div-mul-le-self, div-add-mod', mod-lt, mul-le-mul-right, lt-of-mul-lt-mul-right, not-suc-le-zero, le-of-suc-le-suc}
+use native.Mathlib.Nat.{le-refl, suc-mul, div-mul-le-self, div-add-mod', mod-lt, mul-le-mul-right, lt-of-mul-lt-mul-right, not-suc-le-zero, le-of-suc-le-suc}
 use native.Mathlib.Omega.{arith}
 use native.Mathlib.Numerals.{add-one}
 use lib.Dec.{eqb}
@@ -12,21 +12,22 @@ use lib.IntN.{ℤ}
 use lib.ListN.{length, getD}
 use lib.Ieee.{Float, add, mul, binary32}
 use Rattle.ac_context.specs.Contexts.{zeroDensityContext, Coefficient}
-use Rattle.ac_context.proofs.Bounds.{position-below}
+use Rattle.ac_context.proofs.Bounds.{covered-some, position-below, pair-below, next-context}
 use Rattle.block.specs.Block.{Block}
 use Rattle.block.specs.Cost.{tokenPrice}
 use Rattle.packing.specs.Signed.{packSigned}
 use Rattle.least_cost.proofs.Trial.{nz-le}
 use Rattle.least_cost.specs.Position.{nz}
-use Rattle.prices.specs.Book.{Book, bookOf, price, clusterPrice}
-use Rattle.prices.specs.Checks.{Priced}
+use Rattle.prices.specs.Book.{Book, bookIn, price, clusterPrice}
+use Rattle.prices.specs.Checks.{ClusterPassed}
+use Rattle.prices.proofs.Passed.{Passed, priced-in}
 use Rattle.scan.specs.Scan.{levelAt}
-use Rattle.steps.specs.Plan.{Planned}
+use Rattle.steps.specs.Plan.{Planned, Coded}
 use Rattle.steps.specs.Tail.{Shared, Standing, Continued, clusterAt}
 use Rattle.steps.specs.declared.reading.Plan.{Plan}
 use Rattle.steps.specs.declared.tail.Stretch.{Stretch}
 use Rattle.steps.specs.declared.tail.Tail.{Tail}
-use Rattle.steps.proofs.Counting.{among-first}
+use Rattle.steps.proofs.Counting.{among-first, among-most}
 use Rattle.steps.proofs.Tails.{tokens-step}
 
 module _ (c : ℕ) (some : 0 < c) where
@@ -79,31 +80,48 @@ passed-some {k} {i} {r} {n} {least} from same low counted = go (eqb i k) refl
     go false e = omega (arith, from, eqb-false i k e)
 
 -- the token's cost, its cluster at hand
-pub stretch-price : (n : ℕ) (map configs : List ℕ) (symbols ready : List Float) (b : Block) (p : Plan) (s : Stretch) (k most r i prev : ℕ) (q : ℤ) → Planned b p → Shared p map k most s
+pub stretch-price : (map configs : List ℕ) (symbols ready : List Float) (b : Block) (p : Plan) (s : Stretch) (k most r i prev : ℕ) (q : ℤ) → Planned b p → Shared p map k most s
     → s .least ≤ r → r ≤ most → k ≤ i → i < s .end → prev ≤ 1
-    → clusterPrice configs symbols (cond (eqb prev 0) (s .zero) (s .one)) (packSigned q) ≡ tokenPrice (bookOf n map configs symbols ready) b r i prev q
+    → clusterPrice configs symbols (cond (eqb prev 0) (s .zero) (s .one)) (packSigned q) ≡ tokenPrice (bookIn map configs symbols ready) b r i prev q
 unfolding tokenPrice price
-stretch-price n map configs symbols ready b p s k most r i zero q w sh low high from upto flag =
+stretch-price map configs symbols ready b p s k most r i zero q w sh low high from upto flag =
     let cluster = sh .zero-is r i low high from upto in
     let offset = w .offset-is in
     let covers = w .covered-is in
     cc
-stretch-price n map configs symbols ready b p s k most r i (suc zero) q w sh low high from upto flag =
+stretch-price map configs symbols ready b p s k most r i (suc zero) q w sh low high from upto flag =
     let cluster = sh .one-is r i low high from upto in
     let offset = w .offset-is in
     let covers = w .covered-is in
     cc
-stretch-price n map configs symbols ready b p s k most r i (suc (suc prev)) q w sh low high from upto flag =
+stretch-price map configs symbols ready b p s k most r i (suc (suc prev)) q w sh low high from upto flag =
     absurd (not-suc-le-zero (le-of-suc-le-suc flag))
 
 -- one of two clusters that have prices has prices
 pub priced-by : (configs : List ℕ) (symbols ready : List Float) (zero one prev cluster : ℕ) → cluster ≡ cond (eqb prev 0) zero one
-    → Priced configs symbols ready zero → Priced configs symbols ready one → Priced configs symbols ready cluster
-priced-by configs symbols ready a b prev cluster e x y = subst⁻¹ (Priced configs symbols ready) e (go (eqb prev 0))
+    → ClusterPassed configs symbols ready zero → ClusterPassed configs symbols ready one → ClusterPassed configs symbols ready cluster
+priced-by configs symbols ready a b prev cluster e x y = subst⁻¹ (ClusterPassed configs symbols ready) e (go (eqb prev 0))
   where
-    go : (t : Bool) → Priced configs symbols ready (cond t a b)
+    go : (t : Bool) → ClusterPassed configs symbols ready (cond t a b)
     go true = x
     go false = y
+
+-- both clusters of a stretch have prices where the book passed
+pub both-priced : {map configs : List ℕ} {symbols ready : List Float} {p : Plan} {n k : ℕ} {s : Stretch} → Passed (bookIn map configs symbols ready) → Coded p → Coefficient (p .covered) n k 0 → Shared p map k n s
+    → (ClusterPassed configs symbols ready (s .zero)) × (ClusterPassed configs symbols ready (s .one))
+both-priced {map} {configs} {symbols} {ready} {p} {n} {k} {s} book w co sh =
+    let few = pair-below (covered-some (w .covers)) co in
+    let zero = book .sound .mapped (p .offset + zeroDensityContext (p .covered) n k 0) (omega (arith, few, w .offset)) in
+    let one = book .sound .mapped (p .offset + zeroDensityContext (p .covered) n k 1) (omega (arith, few, next-context (p .covered) n k, w .offset)) in (
+      priced-in book (rw (sh .zero-is n k (sh .counted) (le-refl n) (le-refl k) (sh .here)) at zero),
+      priced-in book (rw (sh .one-is n k (sh .counted) (le-refl n) (le-refl k) (sh .here)) at one),
+    )
+
+-- the next token is a coefficient's, where nonzero levels are left
+pub standing-coefficient : {scan : List ℕ} {levels : List ℤ} {t : Tail} {c : ℕ} → Standing scan levels t → length scan ≡ 64 * c → c ≤ t .k → (t .remaining ≡ 0 → ⊥) → Coefficient c (t .remaining) (t .k) 0
+standing-coefficient {scan} {levels} {t} {c} st e low some =
+    let few : t .remaining ≤ length scan - t .k = rw (st .left) (among-most _ _ _ _) in
+    record { some = omega (arith, some); left = omega (arith, few, st .ended, e); coded = omega (arith, low); flag = omega arith }
 
 -- one token further
 pub standing-step : {scan : List ℕ} {levels : List ℤ} {t : Tail} {level : ℤ} {n : ℕ} {x y : Float} → Standing scan levels t → t .k < length scan → level ≡ levelAt scan levels (t .k) → n ≡ nz level
@@ -118,15 +136,15 @@ standing-step {scan} {levels} {t} {level} {n} s here e en =
       level = λ k low. s .level k (omega (arith, low));
     }
 
-pub continued-step : {scan : List ℕ} {levels : List ℤ} {t from : Tail} {level : ℤ} {n clusters : ℕ} {lambda cost : Float} {map configs : List ℕ} {symbols ready : List Float} {b : Block} {p : Plan} {s : Stretch}
+pub continued-step : {scan : List ℕ} {levels : List ℤ} {t from : Tail} {level : ℤ} {n : ℕ} {lambda cost : Float} {map configs : List ℕ} {symbols ready : List Float} {b : Block} {p : Plan} {s : Stretch}
     → Standing scan levels t → t .k < length scan → level ≡ levelAt scan levels (t .k) → n ≡ nz level → scan ≡ b .scan → levels ≡ b .levels → Planned b p → p .lambda ≡ lambda → Shared p map (from .k) (from .remaining) s
     → s .least ≤ t .remaining → t .remaining ≤ from .remaining → from .k ≤ t .k → t .k < s .end → (t .remaining ≡ 0 → ⊥)
     → cost ≡ mul binary32 lambda (clusterPrice configs symbols (cond (eqb (t .prev) 0) (s .zero) (s .one)) (packSigned level))
-    → Continued (bookOf clusters map configs symbols ready) b (length scan) from t
-    → Continued (bookOf clusters map configs symbols ready) b (length scan) from (record { k = t .k + 1; remaining = t .remaining - n; prev = n; first = add binary32 (t .first) cost; second = add binary32 (t .second) cost })
-continued-step {scan} {levels} {t} {from} {level} {n} {clusters} {lambda} {cost} {map} {configs} {symbols} {ready} {b} {p} {s} st here e en es el w lam sh low high after inside some ec so =
-    let price = stretch-price clusters map configs symbols ready b p s (from .k) (from .remaining) (t .remaining) (t .k) (t .prev) level w sh low high after inside (st .flag) in
-    let rated : cost ≡ mul binary32 (p .lambda) (tokenPrice (bookOf clusters map configs symbols ready) b (t .remaining) (t .k) (t .prev) level) = cc in
+    → Continued (bookIn map configs symbols ready) b (length scan) from t
+    → Continued (bookIn map configs symbols ready) b (length scan) from (record { k = t .k + 1; remaining = t .remaining - n; prev = n; first = add binary32 (t .first) cost; second = add binary32 (t .second) cost })
+continued-step {scan} {levels} {t} {from} {level} {n} {lambda} {cost} {map} {configs} {symbols} {ready} {b} {p} {s} st here e en es el w lam sh low high after inside some ec so =
+    let price = stretch-price map configs symbols ready b p s (from .k) (from .remaining) (t .remaining) (t .k) (t .prev) level w sh low high after inside (st .flag) in
+    let rated : cost ≡ mul binary32 (p .lambda) (tokenPrice (bookIn map configs symbols ready) b (t .remaining) (t .k) (t .prev) level) = cc in
     record {
       first = tokens-step _ b p scan levels (length scan) (t .remaining) (t .k) (t .prev) n (t .first) cost level es el w e rated en here some ∙ so .first;
       second = tokens-step _ b p scan levels (length scan) (t .remaining) (t .k) (t .prev) n (t .second) cost level es el w e rated en here some ∙ so .second;

@@ -15,7 +15,7 @@ ghost use Rattle.ac_context.specs.Contexts.{Coefficient, Covered};
 ghost use Rattle.bias.specs.Level.{isLevel};
 ghost use Rattle.block.specs.Block.{idealAt};
 ghost use Rattle.least_cost.specs.Position.{nz};
-ghost use Rattle.prices.specs.Book.{bookOf, price};
+ghost use Rattle.prices.specs.Book.{bookIn, price};
 ghost use Rattle.prices.specs.Checks.{bookRefusal};
 ghost use Rattle.scan.specs.Scan.{levelAt};
 ghost use Rattle.steps.specs.Place.{distortionAt, rateAt, contextAt, ratedIn, localIn};
@@ -105,7 +105,6 @@ impl Place {
     // The rated prices of a level's token for `prev` 0 and 1.
     pub fn rated_pair(
         self,
-        clusters: u32,
         map: &[u8],
         configs: &[u8],
         symbols: &[f32],
@@ -113,14 +112,14 @@ impl Place {
         context: usize,
         level: i32,
     ) -> Pair
-        requires { ⌜ bookRefusal (bookOf clusters (now map) (now configs) (now symbols) (now ready)) ≡ 0 ⌝ }
+        requires { ⌜ bookRefusal (bookIn (now map) (now configs) (now symbols) (now ready)) ≡ 0 ⌝ }
         requires { ⌜ context + 1 < 14850 ⌝ }
         requires { ⌜ T (isLevel level) ⌝ }
-        ensures { λ r. ⌜ (r .first ≡ ratedIn (bookOf clusters (now (map .entry)) (now (configs .entry)) (now (symbols .entry)) (now (ready .entry))) self context 0 level)
-            × (r .second ≡ ratedIn (bookOf clusters (now (map .entry)) (now (configs .entry)) (now (symbols .entry)) (now (ready .entry))) self context 1 level) ⌝ }
+        ensures { λ r. ⌜ (r .first ≡ ratedIn (bookIn (now (map .entry)) (now (configs .entry)) (now (symbols .entry)) (now (ready .entry))) self context 0 level)
+            × (r .second ≡ ratedIn (bookIn (now (map .entry)) (now (configs .entry)) (now (symbols .entry)) (now (ready .entry))) self context 1 level) ⌝ }
     {
         let value = packing::pack_signed(level);
-        let bits = prices::token_bits_pair(clusters, map, configs, symbols, ready, context, value);
+        let bits = prices::token_bits_pair(map, configs, symbols, ready, context, value);
         let rate = self.rate(level);
         Pair {
             first: rate * bits.first,
@@ -131,7 +130,6 @@ impl Place {
     // The local costs of a level for `prev` 0 and 1, its distortion at hand.
     pub fn local_pair(
         self,
-        clusters: u32,
         map: &[u8],
         configs: &[u8],
         symbols: &[f32],
@@ -140,12 +138,12 @@ impl Place {
         level: i32,
         distortion: f32,
     ) -> Pair
-        requires { ⌜ bookRefusal (bookOf clusters (now map) (now configs) (now symbols) (now ready)) ≡ 0 ⌝ }
+        requires { ⌜ bookRefusal (bookIn (now map) (now configs) (now symbols) (now ready)) ≡ 0 ⌝ }
         requires { ⌜ context + 1 < 14850 ⌝ }
         requires { ⌜ T (isLevel level) ⌝ }
         requires { ⌜ distortion ≡ distortionAt self level ⌝ }
-        ensures { λ r. ⌜ (r .first ≡ localIn (bookOf clusters (now (map .entry)) (now (configs .entry)) (now (symbols .entry)) (now (ready .entry))) self context 0 level)
-            × (r .second ≡ localIn (bookOf clusters (now (map .entry)) (now (configs .entry)) (now (symbols .entry)) (now (ready .entry))) self context 1 level) ⌝ }
+        ensures { λ r. ⌜ (r .first ≡ localIn (bookIn (now (map .entry)) (now (configs .entry)) (now (symbols .entry)) (now (ready .entry))) self context 0 level)
+            × (r .second ≡ localIn (bookIn (now (map .entry)) (now (configs .entry)) (now (symbols .entry)) (now (ready .entry))) self context 1 level) ⌝ }
     {
         if context == 0 {
             return Pair {
@@ -153,7 +151,7 @@ impl Place {
                 second: distortion,
             };
         }
-        let rated = self.rated_pair(clusters, map, configs, symbols, ready, context, level);
+        let rated = self.rated_pair(map, configs, symbols, ready, context, level);
         Pair {
             first: distortion + rated.first,
             second: distortion + rated.second,

@@ -14,8 +14,8 @@ ghost use Rattle.block.specs.Block.{Block};
 ghost use Rattle.block.specs.Cost.{tokensFrom};
 ghost use Rattle.candidates.specs.Candidates.{isCurrent};
 ghost use Rattle.packing.specs.Signed.{packSigned};
-ghost use Rattle.prices.specs.Book.{bookOf, clusterPrice};
-ghost use Rattle.prices.specs.Checks.{bookRefusal, Priced};
+ghost use Rattle.prices.specs.Book.{bookIn, clusterPrice};
+ghost use Rattle.prices.specs.Checks.{bookRefusal, ClusterPassed};
 ghost use Rattle.steps.specs.Plan.{Planned, Coded, Whole};
 ghost use Rattle.steps.specs.Tail.{Shared, Standing, Continued};
 
@@ -36,21 +36,11 @@ struct Stretch {
     one: usize,
 }
 
-fn stretch_at(
-    clusters: u32,
-    map: &[u8],
-    configs: &[u8],
-    symbols: &[f32],
-    ready: &[f32],
-    plan: Plan,
-    remaining: usize,
-    k: usize,
-) -> Stretch
-    requires { ⌜ bookRefusal (bookOf clusters (now map) (now configs) (now symbols) (now ready)) ≡ 0 ⌝ }
+fn stretch_at(map: &[u8], plan: Plan, remaining: usize, k: usize) -> Stretch
+    requires { ⌜ length (now map) ≡ 14850 ⌝ }
     requires { ⌜ Coded plan ⌝ }
     requires { ⌜ Coefficient (plan .covered) remaining k 0 ⌝ }
     ensures { λ r. ⌜ Shared plan (now (map .entry)) k remaining r ⌝ }
-    ensures { λ r. ⌜ (Priced (now (configs .entry)) (now (symbols .entry)) (now (ready .entry)) (r .zero)) × (Priced (now (configs .entry)) (now (symbols .entry)) (now (ready .entry)) (r .one)) ⌝ }
 {
     let covered = plan.covered;
     let context = plan.offset
@@ -84,7 +74,7 @@ fn stretch_cost(
     prev: usize,
     level: i32,
 ) -> f32
-    requires { ⌜ (Priced (now configs) (now symbols) (now ready) zero) × (Priced (now configs) (now symbols) (now ready) one) ⌝ }
+    requires { ⌜ (ClusterPassed (now configs) (now symbols) (now ready) zero) × (ClusterPassed (now configs) (now symbols) (now ready) one) ⌝ }
     requires { ⌜ T (isCurrent level) ⌝ }
     ensures { λ r. ⌜ r ≡ mul binary32 lambda (clusterPrice (now (configs .entry)) (now (symbols .entry)) (cond (eqb prev 0) zero one) (packSigned level)) ⌝ }
 {
@@ -104,13 +94,13 @@ fn add_stretch(
     stretch: Stretch,
     tail: Tail,
 ) -> Tail
-    requires { ⌜ (Priced (now configs) (now symbols) (now ready) (stretch .zero)) × (Priced (now configs) (now symbols) (now ready) (stretch .one)) ⌝ }
+    requires { ⌜ (ClusterPassed (now configs) (now symbols) (now ready) (stretch .zero)) × (ClusterPassed (now configs) (now symbols) (now ready) (stretch .one)) ⌝ }
     requires { ⌜ Standing (now scan) (now levels) tail ⌝ }
     requires { ⌜ (stretch .end ≤ length (now scan)) × (1 ≤ stretch .least) ⌝ }
     ensures { λ r. ⌜ Standing (now (scan .entry)) (now (levels .entry)) r ⌝ }
     ensures { λ r. ⌜ (tail .k ≤ r .k) × (tail .k < stretch .end → stretch .least ≤ tail .remaining → tail .k < r .k) ⌝ }
-    ensures { λ r. ⌜ ((clusters : ℕ) (map : List ℕ) (b : Block) (plan : Plan) → now (scan .entry) ≡ b .scan → now (levels .entry) ≡ b .levels → Planned b plan → plan .lambda ≡ lambda → Shared plan map (tail .k) (tail .remaining) stretch
-        → Continued (bookOf clusters map (now (configs .entry)) (now (symbols .entry)) (now (ready .entry))) b (length (now (scan .entry))) tail r) ⌝ }
+    ensures { λ r. ⌜ ((map : List ℕ) (b : Block) (plan : Plan) → now (scan .entry) ≡ b .scan → now (levels .entry) ≡ b .levels → Planned b plan → plan .lambda ≡ lambda → Shared plan map (tail .k) (tail .remaining) stretch
+        → Continued (bookIn map (now (configs .entry)) (now (symbols .entry)) (now (ready .entry))) b (length (now (scan .entry))) tail r) ⌝ }
 {
     let end = stretch.end;
     let least = stretch.least;
@@ -157,7 +147,6 @@ fn add_stretch(
 
 // Adds to both sums what the levels from here on cost, token by token until no nonzero one is left.
 pub(crate) fn add_tokens(
-    clusters: u32,
     map: &[u8],
     configs: &[u8],
     symbols: &[f32],
@@ -167,14 +156,14 @@ pub(crate) fn add_tokens(
     levels: &[i32],
     from: Tail,
 ) -> Pair
-    requires { ⌜ bookRefusal (bookOf clusters (now map) (now configs) (now symbols) (now ready)) ≡ 0 ⌝ }
+    requires { ⌜ bookRefusal (bookIn (now map) (now configs) (now symbols) (now ready)) ≡ 0 ⌝ }
     requires { ⌜ Coded plan ⌝ }
     requires { ⌜ length (now scan) ≡ 64 * plan .covered ⌝ }
     requires { ⌜ Standing (now scan) (now levels) from ⌝ }
     requires { ⌜ plan .covered ≤ from .k ⌝ }
     ensures { λ r. ⌜ ((b : Block) → now (scan .entry) ≡ b .scan → now (levels .entry) ≡ b .levels → Planned b plan
-        → (r .first ≡ tokensFrom (bookOf clusters (now (map .entry)) (now (configs .entry)) (now (symbols .entry)) (now (ready .entry))) b (length (now (scan .entry)) - from .k) (from .remaining) (from .k) (from .prev) (from .first))
-        × (r .second ≡ tokensFrom (bookOf clusters (now (map .entry)) (now (configs .entry)) (now (symbols .entry)) (now (ready .entry))) b (length (now (scan .entry)) - from .k) (from .remaining) (from .k) (from .prev) (from .second))) ⌝ }
+        → (r .first ≡ tokensFrom (bookIn (now (map .entry)) (now (configs .entry)) (now (symbols .entry)) (now (ready .entry))) b (length (now (scan .entry)) - from .k) (from .remaining) (from .k) (from .prev) (from .first))
+        × (r .second ≡ tokensFrom (bookIn (now (map .entry)) (now (configs .entry)) (now (symbols .entry)) (now (ready .entry))) b (length (now (scan .entry)) - from .k) (from .remaining) (from .k) (from .prev) (from .second))) ⌝ }
 {
     let mut tail = from;
     while tail.k < scan.len() {
@@ -184,16 +173,7 @@ pub(crate) fn add_tokens(
                 second: tail.second,
             };
         }
-        let stretch = stretch_at(
-            clusters,
-            map,
-            configs,
-            symbols,
-            ready,
-            plan,
-            tail.remaining,
-            tail.k,
-        );
+        let stretch = stretch_at(map, plan, tail.remaining, tail.k);
         tail = add_stretch(
             configs,
             symbols,

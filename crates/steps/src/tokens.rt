@@ -15,7 +15,7 @@ ghost use Rattle.bias.specs.Level.{isLevel};
 ghost use Rattle.block.specs.Block.{Block, nonzerosAmong};
 ghost use Rattle.block.specs.Cost.{tokenPrice, tokensFrom, countCost};
 ghost use Rattle.candidates.specs.Candidates.{isCurrent};
-ghost use Rattle.prices.specs.Book.{bookOf};
+ghost use Rattle.prices.specs.Book.{bookIn};
 ghost use Rattle.prices.specs.Checks.{bookRefusal};
 ghost use Rattle.least_cost.specs.Position.{nz};
 ghost use Rattle.scan.specs.Scan.{Perm, sumTo};
@@ -71,7 +71,6 @@ pub fn nonzeros_from(scan: &[u32], levels: &[i32], from: usize) -> usize
 
 // The price of a level's token.
 pub fn token_bits(
-    clusters: u32,
     map: &[u8],
     configs: &[u8],
     symbols: &[f32],
@@ -82,21 +81,20 @@ pub fn token_bits(
     prev: usize,
     level: i32,
 ) -> f32
-    requires { ⌜ bookRefusal (bookOf clusters (now map) (now configs) (now symbols) (now ready)) ≡ 0 ⌝ }
+    requires { ⌜ bookRefusal (bookIn (now map) (now configs) (now symbols) (now ready)) ≡ 0 ⌝ }
     requires { ⌜ Coded plan ⌝ }
     requires { ⌜ Coefficient (plan .covered) remaining k prev ⌝ }
     requires { ⌜ T (isLevel level) ⌝ }
-    ensures { λ r. ⌜ ((b : Block) → Planned b plan → r ≡ tokenPrice (bookOf clusters (now (map .entry)) (now (configs .entry)) (now (symbols .entry)) (now (ready .entry))) b remaining k prev level) ⌝ }
+    ensures { λ r. ⌜ ((b : Block) → Planned b plan → r ≡ tokenPrice (bookIn (now (map .entry)) (now (configs .entry)) (now (symbols .entry)) (now (ready .entry))) b remaining k prev level) ⌝ }
 {
     let context = plan.offset
         + ac_context::zero_density_context(remaining, k, plan.covered, plan.log2, prev);
     let value = packing::pack_signed(level);
-    prices::token_bits(clusters, map, configs, symbols, ready, context, value)
+    prices::token_bits(map, configs, symbols, ready, context, value)
 }
 
 // lambda times the price of a level's token.
 fn token_cost(
-    clusters: u32,
     map: &[u8],
     configs: &[u8],
     symbols: &[f32],
@@ -107,15 +105,14 @@ fn token_cost(
     prev: usize,
     level: i32,
 ) -> f32
-    requires { ⌜ bookRefusal (bookOf clusters (now map) (now configs) (now symbols) (now ready)) ≡ 0 ⌝ }
+    requires { ⌜ bookRefusal (bookIn (now map) (now configs) (now symbols) (now ready)) ≡ 0 ⌝ }
     requires { ⌜ Coded plan ⌝ }
     requires { ⌜ Coefficient (plan .covered) remaining k prev ⌝ }
     requires { ⌜ T (isCurrent level) ⌝ }
-    ensures { λ r. ⌜ ((b : Block) → Planned b plan → r ≡ mul binary32 (plan .lambda) (tokenPrice (bookOf clusters (now (map .entry)) (now (configs .entry)) (now (symbols .entry)) (now (ready .entry))) b remaining k prev level)) ⌝ }
+    ensures { λ r. ⌜ ((b : Block) → Planned b plan → r ≡ mul binary32 (plan .lambda) (tokenPrice (bookIn (now (map .entry)) (now (configs .entry)) (now (symbols .entry)) (now (ready .entry))) b remaining k prev level)) ⌝ }
 {
     plan.lambda
         * token_bits(
-            clusters,
             map,
             configs,
             symbols,
@@ -138,7 +135,6 @@ pub fn first_prev(covered: usize, count: usize) -> usize
 
 // lambda times the price of the count.
 pub fn count_cost(
-    clusters: u32,
     map: &[u8],
     configs: &[u8],
     symbols: &[f32],
@@ -146,14 +142,13 @@ pub fn count_cost(
     plan: Plan,
     count: usize,
 ) -> f32
-    requires { ⌜ bookRefusal (bookOf clusters (now map) (now configs) (now symbols) (now ready)) ≡ 0 ⌝ }
+    requires { ⌜ bookRefusal (bookIn (now map) (now configs) (now symbols) (now ready)) ≡ 0 ⌝ }
     requires { ⌜ Coded plan ⌝ }
     requires { ⌜ count ≤ 65536 ⌝ }
-    ensures { λ r. ⌜ ((b : Block) → Planned b plan → r ≡ countCost (bookOf clusters (now (map .entry)) (now (configs .entry)) (now (symbols .entry)) (now (ready .entry))) b count) ⌝ }
+    ensures { λ r. ⌜ ((b : Block) → Planned b plan → r ≡ countCost (bookIn (now (map .entry)) (now (configs .entry)) (now (symbols .entry)) (now (ready .entry))) b count) ⌝ }
 {
     plan.lambda
         * prices::token_bits(
-            clusters,
             map,
             configs,
             symbols,
@@ -165,7 +160,6 @@ pub fn count_cost(
 
 // What the levels from scan position `from` on cost, `count` of them nonzero, with `prev` 0 and 1. `prev` decides the first token alone, so that all others are priced once.
 pub fn tail_costs(
-    clusters: u32,
     map: &[u8],
     configs: &[u8],
     symbols: &[f32],
@@ -176,14 +170,14 @@ pub fn tail_costs(
     from: usize,
     count: usize,
 ) -> Pair
-    requires { ⌜ bookRefusal (bookOf clusters (now map) (now configs) (now symbols) (now ready)) ≡ 0 ⌝ }
+    requires { ⌜ bookRefusal (bookIn (now map) (now configs) (now symbols) (now ready)) ≡ 0 ⌝ }
     requires { ⌜ Coded plan ⌝ }
     requires { ⌜ Whole (plan .covered) from (now scan) (now levels) ⌝ }
     requires { ⌜ (plan .covered ≤ from) × (from ≤ length (now scan)) ⌝ }
     requires { ⌜ count ≡ nonzerosAmong (now scan) (now levels) from (length (now scan) - from) ⌝ }
     ensures { λ r. ⌜ ((b : Block) → now (scan .entry) ≡ b .scan → now (levels .entry) ≡ b .levels → Planned b plan
-        → (r .first ≡ tokensFrom (bookOf clusters (now (map .entry)) (now (configs .entry)) (now (symbols .entry)) (now (ready .entry))) b (length (now (scan .entry)) - from) count from 0 (fin false 0 (pos 0)))
-        × (r .second ≡ tokensFrom (bookOf clusters (now (map .entry)) (now (configs .entry)) (now (symbols .entry)) (now (ready .entry))) b (length (now (scan .entry)) - from) count from 1 (fin false 0 (pos 0)))) ⌝ }
+        → (r .first ≡ tokensFrom (bookIn (now (map .entry)) (now (configs .entry)) (now (symbols .entry)) (now (ready .entry))) b (length (now (scan .entry)) - from) count from 0 (fin false 0 (pos 0)))
+        × (r .second ≡ tokensFrom (bookIn (now (map .entry)) (now (configs .entry)) (now (symbols .entry)) (now (ready .entry))) b (length (now (scan .entry)) - from) count from 1 (fin false 0 (pos 0)))) ⌝ }
 {
     if count == 0 {
         return Pair {
@@ -192,35 +186,12 @@ pub fn tail_costs(
         };
     }
     let level = crate::level_at(scan, levels, from);
-    let zero = token_cost(
-        clusters,
-        map,
-        configs,
-        symbols,
-        ready,
-        plan,
-        count,
-        from,
-        0,
-        level,
-    );
-    let one = token_cost(
-        clusters,
-        map,
-        configs,
-        symbols,
-        ready,
-        plan,
-        count,
-        from,
-        1,
-        level,
-    );
+    let zero = token_cost(map, configs, symbols, ready, plan, count, from, 0, level);
+    let one = token_cost(map, configs, symbols, ready, plan, count, from, 1, level);
     let nonzero = crate::nonzero(level);
     let k = from + 1;
     let remaining = count - nonzero;
     tail::add_tokens(
-        clusters,
         map,
         configs,
         symbols,

@@ -1,5 +1,5 @@
 -- The whole call: each way it ends is the defined outcome. Assumes nothing.
-use mathlib.Core.Path.{_≡_, ap, _∙_, subst, subst⁻¹}
+use mathlib.Core.Path.{_≡_, sym, ap, _∙_, subst, subst⁻¹}
 use mathlib.Core.Bool.{true, false}
 use mathlib.Core.List.{List}
 use Prim.Native.Nat.{ℕ, _*_, _≤_}
@@ -13,7 +13,9 @@ use Rattle.block.specs.Outcome.{Lent, Result, cleared, refused, resultOf}
 use Rattle.block.specs.declared.Answer.{Answer}
 use Rattle.block.specs.declared.Answer.the-variants.{Refused}
 use Rattle.prices.specs.Book.{Book}
-use Rattle.search_checks.proofs.Checked.{own-lists}
+use Rattle.prices.proofs.Passed.{listed, by-lists}
+use Rattle.problem.proofs.Refusals.{searched}
+use Rattle.search_checks.proofs.Checked.{searched-of}
 use Rattle.search_checks.specs.Checked.{Checked}
 use Rattle.search_checks.proofs.Refusing.{room-of}
 use Rattle.steps.specs.declared.reading.Plan.{Plan}
@@ -32,9 +34,13 @@ module _ (w : ℕ) (v : Window) (book : Book) (b : Block) (l : Lent) where
   refused-banded e some = rw (ne-eqb _ 0 (λ z. some (e ∙ z))) (ap (λ (m : ℕ). refused m l) e)
 
   -- let pass, and searched
-  pub let-pass : refusal w v book b l ≡ 0 → {after : Result} → after ≡ searchedOutcome w v book b l → after ≡ bandedOutcome w v book b l
+  same-book : refusal w v book b l ≡ 0 → book ≡ listed book
+  unfolding refusal
+  same-book none = by-lists book (searched w v book b _ none .0)
+
+  pub let-pass : refusal w v book b l ≡ 0 → {after : Result} → after ≡ searchedOutcome w v (listed book) b l → after ≡ bandedOutcome w v book b l
   unfolding bandedOutcome
-  let-pass none e = rw (eq-eqb (refusal w v book b l) 0 none) e
+  let-pass none e = rw (eq-eqb (refusal w v book b l) 0 none) (e ∙ ap (λ (k : Book). searchedOutcome w v k b l) (sym (same-book none)))
 
   pub searched-banded : {answer : Answer} {levels : List ℤ} {choices : List ℕ} {rowA rowB : List Float} {m n k : ℕ}
       → (answer ≡ answered w v book b) × (levels ≡ written w v book b) → choices ≡ replicate m 255 → m ≡ length (l .choices) → rowA ≡ replicate n (inf false) → n ≡ length (l .rowA)
@@ -62,7 +68,7 @@ whole {w} {book} {b} {l} {r} P = subst (λ (v : Window). PromisedIn w v book b l
 -- the search that is done is the block's
 module _ {hw : ℕ} {book : Book} {b : Block} {p : Plan} (narrow : hw ≤ 12) (K : Checked book b p) {choices : List ℕ} {f : Found} (F : FoundIn hw (p .window) book b choices f) (long : choiceBytes hw * p .window .length ≤ length choices) where
   pub done-of : Done hw (b .scan) (b .source) (b .inverse) (b .levels) p choices f
-  done-of = record { narrow = narrow; book = book; searched = record { block = b; lists = own-lists b; checked = K }; found = F; room = long }
+  done-of = record { narrow = narrow; book = book; searched = searched-of b K; found = F; room = long }
 
   pub done-answer : {answer : Answer} {levels : List ℤ}
       → ((d : Done hw (b .scan) (b .source) (b .inverse) (b .levels) p choices f) → (answer ≡ answered hw (p .window) (d .book) (d .searched .block)) × (levels ≡ written hw (p .window) (d .book) (d .searched .block)))

@@ -12,6 +12,7 @@ use lib.Ieee.{Float, inf, lt}
 use lib.Ieee.Scale.{finite}
 use Rattle.block.specs.Block.{Block, covered, inputRemaining}
 use Rattle.block.specs.Band.{positionsFrom, problemOf, tailOf}
+use Rattle.block.specs.Checks.{states}
 use Rattle.block.specs.Cost.{firstPrev}
 use Rattle.block.specs.declared.Answer.the-variants.{Cost, Refused}
 use Rattle.costs.proofs.Order.{lt-inf}
@@ -21,10 +22,12 @@ use Rattle.prices.specs.Book.{Book}
 use Rattle.problem.proofs.Main.{found, count-within}
 use Rattle.problem.proofs.Problem.{sound}
 use Rattle.scan.specs.Scan.{put}
-use Rattle.search_checks.specs.Checked.{positions, Checked}
-use Rattle.search_checks.proofs.Checked.{remaining-few}
+use Rattle.search_checks.specs.Checked.{positions, Checked, Searched}
+use Rattle.search_checks.proofs.Checked.{remaining-few, window-some}
+use Rattle.search_checks.specs.Start.{Starts}
+use Rattle.search_checks.specs.declared.start.Start.{Start}
 use Rattle.steps.specs.declared.reading.Plan.{Plan}
-use Rattle.trellis_table.specs.Rows.{RowAt, Rowed}
+use Rattle.trellis_table.specs.Rows.{RowAt, Rowed, FirstRow, TailFor, TailRow}
 use Rattle.trellis_table.specs.declared.position.Step.{Step}
 use Rattle.weights.specs.declared.Window.{Window}
 use Rattle.trellis.specs.Walk.{walked, Walkable, Done}
@@ -38,6 +41,11 @@ live-long : (k : ℕ) (t : Bool) (a b live : List Float) → live ≡ cond t a b
 live-long k true a b live e h l = rw e h
 live-long k false a b live e h l = rw e l
 
+-- what the positions are handed
+abbrev pub tail-for : {book : Book} {scan : List ℕ} {source inverse : List Float} {levels : List ℤ} {p : Plan} (s : Searched book scan source inverse levels p) {start : Start} {first : List Float}
+    → Starts (p .window) book (s .block) start → TailRow (p .window) book (s .block) first → TailFor book scan source inverse levels p (start .past) first
+tail-for s t r = record { searched = s; past-is = t .past-is; row-is = r }
+
 -- the row handed back is the live one
 module _ {hw : ℕ} {v : Window} {book : Book} {b : Block} {first second : List Float} {choices : List ℕ} {s : Step} {t : Bool} (R : Rowed hw v book b 0 first second choices s t) {live : List Float} (e : live ≡ cond t first second) where
   pub live-stands : RowAt hw v book b 0 live (s .counts)
@@ -45,6 +53,20 @@ module _ {hw : ℕ} {v : Window} {book : Book} {b : Block} {first second : List 
 
   pub live-room : {k : ℕ} → k ≤ length first → k ≤ length second → k ≤ length live
   live-room {k} h l = live-long k t first second live e h l
+
+-- the last step's row
+abbrev pub first-row : {hw : ℕ} {book : Book} {scan : List ℕ} {source inverse : List Float} {levels : List ℤ} {p : Plan} (s : Searched book scan source inverse levels p) → hw ≤ 12
+    → {first second : List Float} {choices : List ℕ} {step : Step} {t : Bool} → Rowed hw (p .window) book (s .block) 0 first second choices step t → {live : List Float} → live ≡ cond t first second
+    → states hw ≤ length first → states hw ≤ length second → FirstRow book p live (step .counts)
+first-row {hw} s narrow R e h l =
+    record {
+      width = hw;
+      block = s .block;
+      rowable = record { checked = s .checked; narrow = narrow };
+      row-is = live-stands R e;
+      counts-are = R .counts-are (window-some (s .checked));
+      room = live-room R e h l;
+    }
 
 pub from-first : (b : Block) {n : ℕ} → n ≡ inputRemaining b (covered b + 0) → n ≡ inputRemaining b (covered b)
 from-first b e = rw (add-zero (covered b)) at e

@@ -12,7 +12,7 @@ ghost use Prim.Native.Nat.{_≤_, _<_};
 ghost use Rattle.block.specs.Block.{blockOf, covered};
 ghost use Rattle.block.specs.Checks.{choiceBytes};
 ghost use Rattle.block.specs.Outcome.{lentOf, resultOf};
-ghost use Rattle.prices.specs.Book.{bookOf};
+ghost use Rattle.prices.specs.Book.{bookOf, bookIn};
 ghost use Rattle.search_checks.specs.Checked.{Accepted};
 ghost use Rattle.weights.specs.Window.{windowFor};
 ghost use Rattle.trellis.specs.Demand.{Promised};
@@ -30,7 +30,6 @@ pub fn choice_bytes(width: usize) -> usize
 // The search alone, of a block that passed its checks: a band of half-width `width`, a window of at most `cap` positions, by the factored walk or by the other.
 pub fn search_banded(
     factored: bool,
-    clusters: u32,
     map: &[u8],
     configs: &[u8],
     symbols: &[f32],
@@ -51,24 +50,19 @@ pub fn search_banded(
 ) -> Answer
     requires { ⌜ width ≤ 12 ⌝ }
     requires { ⌜ (let b = blockOf shape settings bias scale (now scan) (now source) (now «inv_qm») (now levels) in let v = windowFor cap (covered b) in
-        Accepted v (bookOf clusters (now map) (now configs) (now symbols) (now ready)) b × Roomy width v (now choices) (now «row_a») (now «row_b»)) ⌝ }
+        Accepted v (bookIn (now map) (now configs) (now symbols) (now ready)) b × Roomy width v (now choices) (now «row_a») (now «row_b»)) ⌝ }
     ensures { λ r. ⌜ (let b = blockOf shape settings bias scale (now (scan .entry)) (now (source .entry)) (now («inv_qm» .entry)) (now (levels .entry)) in
         resultOf r (now (levels .exit)) (now (choices .exit)) (now («row_a» .exit)) (now («row_b» .exit))
-        ≡ searchedOutcome width (windowFor cap (covered b)) (bookOf clusters (now (map .entry)) (now (configs .entry)) (now (symbols .entry)) (now (ready .entry))) b
+        ≡ searchedOutcome width (windowFor cap (covered b)) (bookIn (now (map .entry)) (now (configs .entry)) (now (symbols .entry)) (now (ready .entry))) b
         (lentOf (now (levels .entry)) (now (choices .entry)) (now («row_a» .entry)) (now («row_b» .entry)))) ⌝ }
 {
     let plan = steps::reading::plan_of(shape, settings, bias, scale, cap);
     let found = search::search(
         factored,
-        clusters,
         map,
         configs,
         symbols,
         ready,
-        shape,
-        settings,
-        bias,
-        scale,
         scan,
         source,
         inv_qm,
@@ -144,7 +138,6 @@ pub fn rdoq_block_banded(
     }
     search_banded(
         factored,
-        clusters,
         map,
         configs,
         symbols,

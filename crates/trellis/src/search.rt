@@ -1,22 +1,20 @@
 // The whole search of a block that passed its checks.
 use crate::walk;
-use bias::DequantBias;
 use block::Answer;
-use block::Shape;
 use search_checks::start;
 use search_checks::start::Start;
 use steps::reading::Plan;
 use trellis_table::count;
 use trellis_table::exchange;
-use weights::Settings;
 ghost use mathlib.Core.Path.{_≡_};
 ghost use Prim.Native.Nat.{_*_, _≤_};
 ghost use lib.ListN.{length};
-ghost use Rattle.block.specs.Block.{Block, blockOf};
+ghost use Rattle.block.specs.Block.{Block};
 ghost use Rattle.block.specs.Checks.{choiceBytes, states};
-ghost use Rattle.prices.specs.Book.{Book, bookOf};
+ghost use Rattle.prices.specs.Book.{Book, bookIn};
+ghost use Rattle.search_checks.specs.Checked.{Searched};
 ghost use Rattle.search_checks.specs.Start.{Starts};
-ghost use Rattle.trellis_table.specs.Rows.{Rowable, TailRow, Kept};
+ghost use Rattle.trellis_table.specs.Rows.{TailRow, Kept};
 ghost use Rattle.weights.specs.declared.Window.{Window};
 ghost use Rattle.trellis.specs.Walk.{FoundIn, Done};
 ghost use Rattle.trellis.specs.Outcome.{answered, written};
@@ -77,15 +75,10 @@ pub(crate) fn write_found(
 // The search of a block that passed its checks.
 pub(crate) fn search(
     factored: bool,
-    clusters: u32,
     map: &[u8],
     configs: &[u8],
     symbols: &[f32],
     ready: &[f32],
-    shape: Shape,
-    settings: Settings,
-    bias: DequantBias,
-    scale: f32,
     scan: &[u32],
     source: &[f32],
     inv_qm: &[f32],
@@ -96,25 +89,20 @@ pub(crate) fn search(
     row_b: &mut [f32],
     width: usize,
 ) -> Found
-    requires { ⌜ Rowable width (bookOf clusters (now map) (now configs) (now symbols) (now ready)) (blockOf shape settings bias scale (now scan) (now source) (now «inv_qm») (now levels)) plan ⌝ }
+    requires { ⌜ (width ≤ 12) × Searched (bookIn (now map) (now configs) (now symbols) (now ready)) (now scan) (now source) (now «inv_qm») (now levels) plan ⌝ }
     requires { ⌜ (states width ≤ length (now «row_a»)) × ((states width ≤ length (now «row_b»)) × (choiceBytes width * plan .window .length ≤ length (now choices))) ⌝ }
     ensures { λ r. ⌜ Kept (now («row_a» .entry)) (now («row_a» .exit)) (now («row_b» .entry)) (now («row_b» .exit)) (now (choices .entry)) (now (choices .exit)) ⌝ }
-    ensures { λ r. ⌜ FoundIn width (plan .window) (bookOf clusters (now (map .entry)) (now (configs .entry)) (now (symbols .entry)) (now (ready .entry))) (blockOf shape settings bias scale (now (scan .entry)) (now (source .entry)) (now («inv_qm» .entry)) (now (levels .entry))) (now (choices .exit)) r ⌝ }
+    ensures { λ r. ⌜ ((s : Searched (bookIn (now (map .entry)) (now (configs .entry)) (now (symbols .entry)) (now (ready .entry))) (now (scan .entry)) (now (source .entry)) (now («inv_qm» .entry)) (now (levels .entry)) plan) → FoundIn width (plan .window) (bookIn (now (map .entry)) (now (configs .entry)) (now (symbols .entry)) (now (ready .entry))) (s .block) (now (choices .exit)) r) ⌝ }
 {
-    let start = start::start_of(clusters, map, configs, symbols, ready, plan, scan, levels);
+    let start = start::start_of(map, configs, symbols, ready, plan, scan, levels);
     let past = start.past;
     start_row(start, row_a);
     let last = exchange::take_positions(
         factored,
-        clusters,
         map,
         configs,
         symbols,
         ready,
-        shape,
-        settings,
-        bias,
-        scale,
         scan,
         source,
         inv_qm,
@@ -128,25 +116,7 @@ pub(crate) fn search(
     );
     let step = last.step;
     let live = exchange::live_row(row_a, row_b, last.in_first);
-    let best = count::best_count(
-        clusters,
-        map,
-        configs,
-        symbols,
-        ready,
-        shape,
-        settings,
-        bias,
-        scale,
-        scan,
-        source,
-        inv_qm,
-        levels,
-        plan,
-        live,
-        step.counts,
-        width,
-    );
+    let best = count::best_count(map, configs, symbols, ready, plan, live, step.counts);
     Found {
         cost: best.cost,
         count: best.count,

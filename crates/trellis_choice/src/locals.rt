@@ -4,7 +4,7 @@ ghost use mathlib.Core.Path.{_≡_};
 ghost use Prim.Native.Nat.{_+_, _<_};
 ghost use lib.ListN.{length};
 ghost use Rattle.candidates.specs.Candidates.{inArray};
-ghost use Rattle.prices.specs.Book.{bookOf};
+ghost use Rattle.prices.specs.Book.{bookIn};
 ghost use Rattle.prices.specs.Checks.{bookRefusal};
 ghost use Rattle.steps.specs.Place.{distortionAt, localIn};
 ghost use Rattle.trellis_choice.specs.Locals.{listed, Usable, nothing, considered, noted, Empty, Each, Located};
@@ -86,7 +86,6 @@ impl Locals {
 
 // The local costs in one context, their distortions at hand: in `first` for `prev` 0, in `second` for `prev` 1. Lent, they are not copied.
 pub fn locals_in(
-    clusters: u32,
     map: &[u8],
     configs: &[u8],
     symbols: &[f32],
@@ -99,13 +98,13 @@ pub fn locals_in(
     first: &mut [f32; 5],
     second: &mut [f32; 5],
 ) -> Locals
-    requires { ⌜ bookRefusal (bookOf clusters (now map) (now configs) (now symbols) (now ready)) ≡ 0 ⌝ }
+    requires { ⌜ bookRefusal (bookIn (now map) (now configs) (now symbols) (now ready)) ≡ 0 ⌝ }
     requires { ⌜ context + 1 < 14850 ⌝ }
     requires { ⌜ Usable (inArray count (now levels)) ⌝ }
     requires { ⌜ Each (distortionAt place) (listed (inArray count (now levels))) (now distortion) ⌝ }
     requires { ⌜ (length (now first) ≡ 5) × (length (now second) ≡ 5) ⌝ }
-    ensures { λ r. ⌜ Located (localIn (bookOf clusters (now (map .entry)) (now (configs .entry)) (now (symbols .entry)) (now (ready .entry))) place context 0)
-        (localIn (bookOf clusters (now (map .entry)) (now (configs .entry)) (now (symbols .entry)) (now (ready .entry))) place context 1)
+    ensures { λ r. ⌜ Located (localIn (bookIn (now (map .entry)) (now (configs .entry)) (now (symbols .entry)) (now (ready .entry))) place context 0)
+        (localIn (bookIn (now (map .entry)) (now (configs .entry)) (now (symbols .entry)) (now (ready .entry))) place context 1)
         (listed (inArray count (now (levels .entry)))) (now (first .exit)) (now (second .exit)) r ⌝ }
     ensures { λ _. ⌜ (length (now (first .exit)) ≡ 5) × (length (now (second .exit)) ≡ 5) ⌝ }
 {
@@ -113,16 +112,7 @@ pub fn locals_in(
     let mut j = 0;
     while j < count {
         let level = levels[j];
-        let pair = place.local_pair(
-            clusters,
-            map,
-            configs,
-            symbols,
-            ready,
-            context,
-            level,
-            distortion[j],
-        );
+        let pair = place.local_pair(map, configs, symbols, ready, context, level, distortion[j]);
         first[j] = pair.first;
         second[j] = pair.second;
         locals = locals.note(j, level, pair.first, pair.second);

@@ -11,7 +11,7 @@ ghost use lib.ListN.{length};
 ghost use lib.Ieee.{add, binary32};
 ghost use Rattle.candidates.specs.Candidates.{inArray};
 ghost use Rattle.half_bytes.specs.Packed.{unpacked};
-ghost use Rattle.prices.specs.Book.{bookOf};
+ghost use Rattle.prices.specs.Book.{bookIn};
 ghost use Rattle.steps.specs.Place.{distortionAt};
 ghost use Rattle.trellis_choice.specs.Locals.{listed, Each};
 ghost use Rattle.trellis_row.specs.Row.{RowIs, Elsewhere, Workable};
@@ -59,7 +59,6 @@ fn update_pair(
 
 // The edge from count `n` of the next row over the candidate at `j`: none to a count outside the row, and none where nothing finite follows.
 fn try_edge(
-    clusters: u32,
     map: &[u8],
     configs: &[u8],
     symbols: &[f32],
@@ -78,14 +77,14 @@ fn try_edge(
     n: usize,
     j: usize,
 )
-    requires { ⌜ Workable (bookOf clusters (now map) (now configs) (now symbols) (now ready)) place (inArray count (now levels)) (now next) span most ⌝ }
+    requires { ⌜ Workable (bookIn (now map) (now configs) (now symbols) (now ready)) place (inArray count (now levels)) (now next) span most ⌝ }
     requires { ⌜ Each (distortionAt place) (listed (inArray count (now levels))) (now distortion) ⌝ }
     requires { ⌜ (least ≤ most) × ((2 * (most - least) + 1 < length (now current)) × (2 * at + 2 * (most - least) + 1 < length (unpacked (now choices)))) ⌝ }
     requires { ⌜ (n ≤ most) × (j < count) ⌝ }
-    requires { ⌜ Tried (bookOf clusters (now map) (now configs) (now symbols) (now ready)) place (listed (inArray count (now levels))) (now next) span least most (2 * at) n j (now current) (unpacked (now choices)) ⌝ }
+    requires { ⌜ Tried (bookIn (now map) (now configs) (now symbols) (now ready)) place (listed (inArray count (now levels))) (now next) span least most (2 * at) n j (now current) (unpacked (now choices)) ⌝ }
     ensures { λ _. ⌜ length (now (current .exit)) ≡ length (now (current .entry)) ⌝ }
     ensures { λ _. ⌜ Elsewhere (2 * at) (2 * (most + 1 - least)) (unpacked (now (choices .entry))) (unpacked (now (choices .exit))) ⌝ }
-    ensures { λ _. ⌜ Tried (bookOf clusters (now (map .entry)) (now (configs .entry)) (now (symbols .entry)) (now (ready .entry))) place (listed (inArray count (now (levels .entry)))) (now (next .entry)) span least most (2 * at) n (j + 1) (now (current .exit)) (unpacked (now (choices .exit))) ⌝ }
+    ensures { λ _. ⌜ Tried (bookIn (now (map .entry)) (now (configs .entry)) (now (symbols .entry)) (now (ready .entry))) place (listed (inArray count (now (levels .entry)))) (now (next .entry)) span least most (2 * at) n (j + 1) (now (current .exit)) (unpacked (now (choices .exit))) ⌝ }
 {
     let level = levels[j];
     let nonzero = steps::nonzero(level);
@@ -99,23 +98,13 @@ fn try_edge(
     let tail = row::tail_at(next, span, n, nonzero);
     if tail < costs::infinity() {
         let context = place.context(r);
-        let local = place.local_pair(
-            clusters,
-            map,
-            configs,
-            symbols,
-            ready,
-            context,
-            level,
-            distortion[j],
-        );
+        let local = place.local_pair(map, configs, symbols, ready, context, level, distortion[j]);
         update_pair(local, tail, j as u8, current, choices, r - least, at);
     }
 }
 
 // All edges from count `n` of the next row.
 fn edges_from(
-    clusters: u32,
     map: &[u8],
     configs: &[u8],
     symbols: &[f32],
@@ -133,19 +122,18 @@ fn edges_from(
     most: usize,
     n: usize,
 )
-    requires { ⌜ Workable (bookOf clusters (now map) (now configs) (now symbols) (now ready)) place (inArray count (now levels)) (now next) span most ⌝ }
+    requires { ⌜ Workable (bookIn (now map) (now configs) (now symbols) (now ready)) place (inArray count (now levels)) (now next) span most ⌝ }
     requires { ⌜ Each (distortionAt place) (listed (inArray count (now levels))) (now distortion) ⌝ }
     requires { ⌜ (least ≤ most) × ((2 * (most - least) + 1 < length (now current)) × (2 * at + 2 * (most - least) + 1 < length (unpacked (now choices)))) ⌝ }
     requires { ⌜ n ≤ most ⌝ }
-    requires { ⌜ Tried (bookOf clusters (now map) (now configs) (now symbols) (now ready)) place (listed (inArray count (now levels))) (now next) span least most (2 * at) n 0 (now current) (unpacked (now choices)) ⌝ }
+    requires { ⌜ Tried (bookIn (now map) (now configs) (now symbols) (now ready)) place (listed (inArray count (now levels))) (now next) span least most (2 * at) n 0 (now current) (unpacked (now choices)) ⌝ }
     ensures { λ _. ⌜ length (now (current .exit)) ≡ length (now (current .entry)) ⌝ }
     ensures { λ _. ⌜ Elsewhere (2 * at) (2 * (most + 1 - least)) (unpacked (now (choices .entry))) (unpacked (now (choices .exit))) ⌝ }
-    ensures { λ _. ⌜ Tried (bookOf clusters (now (map .entry)) (now (configs .entry)) (now (symbols .entry)) (now (ready .entry))) place (listed (inArray count (now (levels .entry)))) (now (next .entry)) span least most (2 * at) (n + 1) 0 (now (current .exit)) (unpacked (now (choices .exit))) ⌝ }
+    ensures { λ _. ⌜ Tried (bookIn (now (map .entry)) (now (configs .entry)) (now (symbols .entry)) (now (ready .entry))) place (listed (inArray count (now (levels .entry)))) (now (next .entry)) span least most (2 * at) (n + 1) 0 (now (current .exit)) (unpacked (now (choices .exit))) ⌝ }
 {
     let mut j = 0;
     while j < count {
         try_edge(
-            clusters,
             map,
             configs,
             symbols,
@@ -180,7 +168,6 @@ fn last_count(span: Span, most: usize) -> usize
 
 // All edges of the row, whose states are at +infinity.
 fn all_edges(
-    clusters: u32,
     map: &[u8],
     configs: &[u8],
     symbols: &[f32],
@@ -197,19 +184,18 @@ fn all_edges(
     least: usize,
     most: usize,
 )
-    requires { ⌜ Workable (bookOf clusters (now map) (now configs) (now symbols) (now ready)) place (inArray count (now levels)) (now next) span most ⌝ }
+    requires { ⌜ Workable (bookIn (now map) (now configs) (now symbols) (now ready)) place (inArray count (now levels)) (now next) span most ⌝ }
     requires { ⌜ Each (distortionAt place) (listed (inArray count (now levels))) (now distortion) ⌝ }
     requires { ⌜ (least ≤ most) × ((2 * (most - least) + 1 < length (now current)) × (2 * at + 2 * (most - least) + 1 < length (unpacked (now choices)))) ⌝ }
     requires { ⌜ Cleared (2 * at) (2 * (most + 1 - least)) (now current) (unpacked (now choices)) ⌝ }
     ensures { λ _. ⌜ length (now (current .exit)) ≡ length (now (current .entry)) ⌝ }
     ensures { λ _. ⌜ Elsewhere (2 * at) (2 * (most + 1 - least)) (unpacked (now (choices .entry))) (unpacked (now (choices .exit))) ⌝ }
-    ensures { λ _. ⌜ RowIs (bookOf clusters (now (map .entry)) (now (configs .entry)) (now (symbols .entry)) (now (ready .entry))) place (listed (inArray count (now (levels .entry)))) (now (next .entry)) span least (2 * at) (2 * (most + 1 - least)) (now (current .exit)) (unpacked (now (choices .exit))) ⌝ }
+    ensures { λ _. ⌜ RowIs (bookIn (now (map .entry)) (now (configs .entry)) (now (symbols .entry)) (now (ready .entry))) place (listed (inArray count (now (levels .entry)))) (now (next .entry)) span least (2 * at) (2 * (most + 1 - least)) (now (current .exit)) (unpacked (now (choices .exit))) ⌝ }
 {
     let end = last_count(span, most);
     let mut n = span.from;
     while n <= end {
         edges_from(
-            clusters,
             map,
             configs,
             symbols,
@@ -247,7 +233,6 @@ fn clear(current: &mut [f32], choices: &mut [u8], at: usize, n: usize)
 
 // The states of the counts from `least` to `most`: their costs from the front of `current`, their choices from byte `at` on.
 pub fn fill_row(
-    clusters: u32,
     map: &[u8],
     configs: &[u8],
     symbols: &[f32],
@@ -263,17 +248,16 @@ pub fn fill_row(
     least: usize,
     most: usize,
 )
-    requires { ⌜ Workable (bookOf clusters (now map) (now configs) (now symbols) (now ready)) place (inArray count (now levels)) (now next) span most ⌝ }
+    requires { ⌜ Workable (bookIn (now map) (now configs) (now symbols) (now ready)) place (inArray count (now levels)) (now next) span most ⌝ }
     requires { ⌜ (least ≤ most) × ((2 * (most - least) + 1 < length (now current)) × (2 * at + 2 * (most - least) + 1 < length (unpacked (now choices)))) ⌝ }
     ensures { λ s. ⌜ length (now (current .exit)) ≡ length (now (current .entry)) ⌝ }
     ensures { λ s. ⌜ Elsewhere (2 * at) (2 * (most + 1 - least)) (unpacked (now (choices .entry))) (unpacked (now (choices .exit))) ⌝ }
-    ensures { λ s. ⌜ RowIs (bookOf clusters (now (map .entry)) (now (configs .entry)) (now (symbols .entry)) (now (ready .entry))) place (listed (inArray count (now (levels .entry)))) (now (next .entry)) span least (2 * at) (2 * (most + 1 - least)) (now (current .exit)) (unpacked (now (choices .exit))) ⌝ }
+    ensures { λ s. ⌜ RowIs (bookIn (now (map .entry)) (now (configs .entry)) (now (symbols .entry)) (now (ready .entry))) place (listed (inArray count (now (levels .entry)))) (now (next .entry)) span least (2 * at) (2 * (most + 1 - least)) (now (current .exit)) (unpacked (now (choices .exit))) ⌝ }
 {
     let mut distortion = [0.0f32; 5];
     steps::reading::distortions(place, levels, count, &mut distortion);
     clear(current, choices, at, most + 1 - least);
     all_edges(
-        clusters,
         map,
         configs,
         symbols,

@@ -16,7 +16,7 @@ ghost use Rattle.candidates.specs.Candidates.{inArray};
 ghost use Rattle.costs.specs.Cost.{cost as isCost};
 ghost use Rattle.least_cost.specs.Search.{hasZero};
 ghost use Rattle.half_bytes.specs.Packed.{unpacked, kept};
-ghost use Rattle.prices.specs.Book.{Book, bookOf};
+ghost use Rattle.prices.specs.Book.{Book, bookIn};
 ghost use Rattle.steps.specs.Place.{contextAt};
 ghost use Rattle.trellis_choice.specs.Locals.{listed, Usable, Located};
 ghost use Rattle.trellis_choice.specs.Chosen.{ZeroAt, Settled};
@@ -257,7 +257,6 @@ fn fill_run(
 // The states of the counts from `least` to `most`: their costs from the front of `current`, their choices from byte `at` on. Counts that
 // share a context share their local costs, which are worked out from the first of them that something finite follows.
 pub fn fill_row(
-    clusters: u32,
     map: &[u8],
     configs: &[u8],
     symbols: &[f32],
@@ -273,11 +272,11 @@ pub fn fill_row(
     least: usize,
     most: usize,
 )
-    requires { ⌜ Workable (bookOf clusters (now map) (now configs) (now symbols) (now ready)) place (inArray count (now levels)) (now next) span most ⌝ }
+    requires { ⌜ Workable (bookIn (now map) (now configs) (now symbols) (now ready)) place (inArray count (now levels)) (now next) span most ⌝ }
     requires { ⌜ (least ≤ most) × ((2 * (most - least) + 1 < length (now current)) × (2 * at + 2 * (most - least) + 1 < length (unpacked (now choices)))) ⌝ }
     ensures { λ s. ⌜ length (now (current .exit)) ≡ length (now (current .entry)) ⌝ }
     ensures { λ s. ⌜ Elsewhere (2 * at) (2 * (most + 1 - least)) (unpacked (now (choices .entry))) (unpacked (now (choices .exit))) ⌝ }
-    ensures { λ s. ⌜ RowIs (bookOf clusters (now (map .entry)) (now (configs .entry)) (now (symbols .entry)) (now (ready .entry))) place (listed (inArray count (now (levels .entry)))) (now (next .entry)) span least (2 * at) (2 * (most + 1 - least)) (now (current .exit)) (unpacked (now (choices .exit))) ⌝ }
+    ensures { λ s. ⌜ RowIs (bookIn (now (map .entry)) (now (configs .entry)) (now (symbols .entry)) (now (ready .entry))) place (listed (inArray count (now (levels .entry)))) (now (next .entry)) span least (2 * at) (2 * (most + 1 - least)) (now (current .exit)) (unpacked (now (choices .exit))) ⌝ }
 {
     let mut distortion = [0.0f32; 5];
     let mut first = [0.0f32; 5];
@@ -295,7 +294,6 @@ pub fn fill_row(
         }
         let context = place.context(r);
         let locals = locals::locals_in(
-            clusters,
             map,
             configs,
             symbols,

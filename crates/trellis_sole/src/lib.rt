@@ -13,7 +13,7 @@ ghost use lib.ListN.{length};
 ghost use Rattle.bias.specs.Level.{isLevel};
 ghost use Rattle.candidates.specs.Candidates.{inArray};
 ghost use Rattle.half_bytes.specs.Packed.{unpacked};
-ghost use Rattle.prices.specs.Book.{Book, bookOf};
+ghost use Rattle.prices.specs.Book.{Book, bookIn};
 ghost use Rattle.prices.specs.Checks.{bookRefusal};
 ghost use Rattle.trellis_choice.specs.Locals.{listed};
 ghost use Rattle.trellis_row.specs.Row.{RowIs, Elsewhere, Workable};
@@ -52,7 +52,6 @@ fn states_of(distortion: f32, token: Pair, tail: f32) -> States
 
 // The token's rated prices; none where nothing remains.
 fn token_of(
-    clusters: u32,
     map: &[u8],
     configs: &[u8],
     symbols: &[f32],
@@ -61,10 +60,10 @@ fn token_of(
     context: usize,
     level: i32,
 ) -> Pair
-    requires { ⌜ bookRefusal (bookOf clusters (now map) (now configs) (now symbols) (now ready)) ≡ 0 ⌝ }
+    requires { ⌜ bookRefusal (bookIn (now map) (now configs) (now symbols) (now ready)) ≡ 0 ⌝ }
     requires { ⌜ context + 1 < 14850 ⌝ }
     requires { ⌜ T (isLevel level) ⌝ }
-    ensures { λ r. ⌜ TokenIs (bookOf clusters (now (map .entry)) (now (configs .entry)) (now (symbols .entry)) (now (ready .entry))) place context level r ⌝ }
+    ensures { λ r. ⌜ TokenIs (bookIn (now (map .entry)) (now (configs .entry)) (now (symbols .entry)) (now (ready .entry))) place context level r ⌝ }
 {
     if context == 0 {
         return Pair {
@@ -72,7 +71,7 @@ fn token_of(
             second: 0.0f32,
         };
     }
-    place.rated_pair(clusters, map, configs, symbols, ready, context, level)
+    place.rated_pair(map, configs, symbols, ready, context, level)
 }
 
 // The two states of count `r`, written behind those of the counts from `least` on.
@@ -155,14 +154,12 @@ fn fill_run(
 
 // The states of the counts from `least` to `most` of a position with one candidate.
 fn fill_sole(
-    clusters: u32,
     map: &[u8],
     configs: &[u8],
     symbols: &[f32],
     ready: &[f32],
     place: Place,
     levels: &[i32; 5],
-    count: usize,
     next: &[f32],
     span: Span,
     current: &mut [f32],
@@ -171,28 +168,18 @@ fn fill_sole(
     least: usize,
     most: usize,
 )
-    requires { ⌜ Workable (bookOf clusters (now map) (now configs) (now symbols) (now ready)) place (inArray count (now levels)) (now next) span most ⌝ }
-    requires { ⌜ count ≡ 1 ⌝ }
+    requires { ⌜ Workable (bookIn (now map) (now configs) (now symbols) (now ready)) place (inArray 1 (now levels)) (now next) span most ⌝ }
     requires { ⌜ (least ≤ most) × ((2 * (most - least) + 1 < length (now current)) × (2 * at + 2 * (most - least) + 1 < length (unpacked (now choices)))) ⌝ }
     ensures { λ s. ⌜ length (now (current .exit)) ≡ length (now (current .entry)) ⌝ }
     ensures { λ s. ⌜ Elsewhere (2 * at) (2 * (most + 1 - least)) (unpacked (now (choices .entry))) (unpacked (now (choices .exit))) ⌝ }
-    ensures { λ s. ⌜ RowIs (bookOf clusters (now (map .entry)) (now (configs .entry)) (now (symbols .entry)) (now (ready .entry))) place (listed (inArray count (now (levels .entry)))) (now (next .entry)) span least (2 * at) (2 * (most + 1 - least)) (now (current .exit)) (unpacked (now (choices .exit))) ⌝ }
+    ensures { λ s. ⌜ RowIs (bookIn (now (map .entry)) (now (configs .entry)) (now (symbols .entry)) (now (ready .entry))) place (listed (inArray 1 (now (levels .entry)))) (now (next .entry)) span least (2 * at) (2 * (most + 1 - least)) (now (current .exit)) (unpacked (now (choices .exit))) ⌝ }
 {
     let level = levels[0];
     let distortion = place.distortion(level);
     let mut r = least;
     while r <= most {
         let context = place.context(r);
-        let token = token_of(
-            clusters,
-            map,
-            configs,
-            symbols,
-            ready,
-            place,
-            context,
-            level,
-        );
+        let token = token_of(map, configs, symbols, ready, place, context, level);
         let end = row::run_end(place, r, most);
         fill_run(
             level,
@@ -213,7 +200,6 @@ fn fill_sole(
 
 // The states of the counts from `least` to `most`: their costs from the front of `current`, their choices from byte `at` on.
 pub fn fill_row(
-    clusters: u32,
     map: &[u8],
     configs: &[u8],
     symbols: &[f32],
@@ -229,22 +215,20 @@ pub fn fill_row(
     least: usize,
     most: usize,
 )
-    requires { ⌜ Workable (bookOf clusters (now map) (now configs) (now symbols) (now ready)) place (inArray count (now levels)) (now next) span most ⌝ }
+    requires { ⌜ Workable (bookIn (now map) (now configs) (now symbols) (now ready)) place (inArray count (now levels)) (now next) span most ⌝ }
     requires { ⌜ (least ≤ most) × ((2 * (most - least) + 1 < length (now current)) × (2 * at + 2 * (most - least) + 1 < length (unpacked (now choices)))) ⌝ }
     ensures { λ s. ⌜ length (now (current .exit)) ≡ length (now (current .entry)) ⌝ }
     ensures { λ s. ⌜ Elsewhere (2 * at) (2 * (most + 1 - least)) (unpacked (now (choices .entry))) (unpacked (now (choices .exit))) ⌝ }
-    ensures { λ s. ⌜ RowIs (bookOf clusters (now (map .entry)) (now (configs .entry)) (now (symbols .entry)) (now (ready .entry))) place (listed (inArray count (now (levels .entry)))) (now (next .entry)) span least (2 * at) (2 * (most + 1 - least)) (now (current .exit)) (unpacked (now (choices .exit))) ⌝ }
+    ensures { λ s. ⌜ RowIs (bookIn (now (map .entry)) (now (configs .entry)) (now (symbols .entry)) (now (ready .entry))) place (listed (inArray count (now (levels .entry)))) (now (next .entry)) span least (2 * at) (2 * (most + 1 - least)) (now (current .exit)) (unpacked (now (choices .exit))) ⌝ }
 {
     if count == 1 {
         fill_sole(
-            clusters,
             map,
             configs,
             symbols,
             ready,
             place,
             levels,
-            count,
             next,
             span,
             current,
@@ -256,7 +240,6 @@ pub fn fill_row(
         return;
     }
     row::fill_row(
-        clusters,
         map,
         configs,
         symbols,

@@ -41,7 +41,7 @@ use Rattle.trellis_row.specs.Table.{RowFor, ChoicesFor}
 use Rattle.trellis_row.specs.declared.row.Span.{Span}
 use Rattle.trellis_row.proofs.Rows.{nonzero-tail-cost}
 use Rattle.trellis_row.proofs.Table.{Common, row-for, choices-for, choices-none}
-use Rattle.search_checks.specs.Checked.{positions}
+use Rattle.search_checks.specs.Checked.{positions, Searched}
 use Rattle.search_checks.proofs.Checked.{inner, remaining-few, remaining-step, positions-cons}
 use Rattle.trellis_table.specs.Rows.{leastCount, riseAt, Rowable, RowAt, Stepped}
 use Rattle.trellis_table.proofs.Picks.{member, pick-among, pick-cheap, pick-within}
@@ -190,6 +190,9 @@ some-in hw m past a h k = omega arith
 
 read-in : (hw a m : ℕ) → a ≤ m → a ≤ min (a + hw) m
 read-in hw a m h = omega arith
+
+pub rowable-of : {hw : ℕ} {book : Book} {scan : List ℕ} {source inverse : List Float} {levels : List ℤ} {p : Plan} (s : Searched book scan source inverse levels p) → hw ≤ 12 → Rowable hw book (s .block) p
+rowable-of s h = record { checked = s .checked; narrow = h }
 
 module _ {hw : ℕ} {book : Book} {b : Block} {p : Plan} (K : Rowable hw book b p) where
   P : Passed (p .window) b

@@ -21,8 +21,9 @@ use Rattle.prices.specs.Book.{Book}
 use Rattle.trellis_row.specs.Row.{Elsewhere}
 use Rattle.trellis_row.specs.Table.{RowFor, ChoicesFor}
 use Rattle.search_checks.specs.Checked.{positions}
+use Rattle.steps.specs.declared.reading.Plan.{Plan}
 use Rattle.weights.specs.declared.Window.{Window}
-use Rattle.trellis_table.specs.Rows.{RowAt, ChosenAt, ChosenFrom, Stepped, Rowed, TailRow}
+use Rattle.trellis_table.specs.Rows.{RowAt, ChosenAt, ChosenFrom, Stepped, Rowed, TailRow, TailFor, NextFor}
 use Rattle.trellis_table.specs.declared.position.Counts.{Counts}
 use Rattle.trellis_table.specs.declared.position.Step.{Step}
 
@@ -103,6 +104,12 @@ chosen-more {hw} {v} {book} {b} {i} {choices} {choices'} E here w = record { eac
         let other = eqb-false i j e in
         let later : i < j = omega (arith, other) in
         chosen-kept later E (w .each j later h)
+
+-- ---- what the next position is handed
+abbrev pub from-tail : {book : Book} {scan : List ℕ} {source inverse : List Float} {levels : List ℤ} {p : Plan} {past i after : ℕ} {first next : List Float} {c : Counts} {w : ℕ}
+    → (t : TailFor book scan source inverse levels p past first) → after ≡ inputRemaining (t .searched .block) (covered (t .searched .block) + suc i) → RowAt w (p .window) book (t .searched .block) (suc i) next c
+    → NextFor w book scan source inverse levels p past i after next c
+from-tail t a r = record { searched = t .searched; past-is = t .past-is; after-is = a; row-is = r }
 
 -- ---- one position, from the row that is live to the other
 again : (i : ℕ) → 0 < i → suc (i - 1) ≡ i

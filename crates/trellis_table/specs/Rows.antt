@@ -9,13 +9,13 @@ use lib.IntN.{ℤ}
 use lib.Ieee.{Float, nan, lt}
 use lib.Ieee.Scale.{finite}
 use Rattle.block.specs.Block.{Block, covered, inputRemaining}
-use Rattle.block.specs.Band.{positionAt, tailOf, pastWindow}
+use Rattle.block.specs.Band.{positionAt, problemOf, tailOf, pastWindow}
 use Rattle.block.specs.Checks.{choiceBytes, states}
 use Rattle.half_bytes.specs.Packed.{unpacked}
 use Rattle.least_cost.specs.Position.{nz}
-use Rattle.least_cost.specs.Search.{best}
+use Rattle.least_cost.specs.Search.{Problem, best}
 use Rattle.prices.specs.Book.{Book}
-use Rattle.search_checks.specs.Checked.{positions, Checked}
+use Rattle.search_checks.specs.Checked.{positions, Checked, Searched}
 use Rattle.steps.specs.declared.reading.Plan.{Plan}
 use Rattle.trellis_row.specs.Row.{Elsewhere}
 use Rattle.trellis_row.specs.Table.{RowFor, ChoicesFor}
@@ -56,6 +56,19 @@ pub record CountsAt (w : ℕ) (v : Window) (b : Block) (i : ℕ) (c : Counts) : 
   pub least : c .least ≡ lowestAt w v b i
   pub most : i ≡ 0 → c .most ≡ highestAt w v b i
 
+-- the first position's row, of a block and a half-width that the last step is not handed
+pub record FirstRow (book : Book) (p : Plan) (live : List Float) (c : Counts) : Type 0 where
+  pub width : ℕ
+  pub block : Block
+  pub rowable : Rowable width book block p
+  pub row-is : RowAt width (p .window) book block 0 live c
+  pub counts-are : CountsAt width (p .window) block 0 c
+  pub room : states width ≤ length live
+
+-- .. and its problem
+abbrev pub problemIn : {book : Book} {p : Plan} {live : List Float} {c : Counts} → FirstRow book p live c → Problem
+problemIn {book} {p} t = problemOf (t .width) (p .window) book (t .block)
+
 -- The packed choices of position i stand for a byte each: the index of the level that a state of finite cost picks, 255 where the cost is infinite, up to
 -- the row's last count, above which no cost is finite.
 pub record ChosenAt (w : ℕ) (v : Window) (book : Book) (b : Block) (i : ℕ) (choices : List ℕ) : Type 0 where
@@ -95,6 +108,19 @@ pub record Kept (a a' b b' : List Float) (c c' : List ℕ) : Type 0 where
 pub record TailRow (v : Window) (book : Book) (b : Block) (row : List Float) : Type 0 where
   pub zero : getD row 0 nan ≡ tailOf v book b .cost 0
   pub one : getD row 1 nan ≡ tailOf v book b .cost 1
+
+-- what the code is handed of a block before its last position is taken, the tail's row as `first` ..
+pub record TailFor (book : Book) (scan : List ℕ) (source inverse : List Float) (levels : List ℤ) (p : Plan) (past : ℕ) (first : List Float) : Type 0 where
+  pub searched : Searched book scan source inverse levels p
+  pub past-is : past ≡ pastWindow (p .window) (searched .block)
+  pub row-is : TailRow (p .window) book (searched .block) first
+
+-- .. and before position i, the row after it as `next`
+pub record NextFor (w : ℕ) (book : Book) (scan : List ℕ) (source inverse : List Float) (levels : List ℤ) (p : Plan) (past i after : ℕ) (next : List Float) (c : Counts) : Type 0 where
+  pub searched : Searched book scan source inverse levels p
+  pub past-is : past ≡ pastWindow (p .window) (searched .block)
+  pub after-is : after ≡ inputRemaining (searched .block) (covered (searched .block) + suc i)
+  pub row-is : RowAt w (p .window) book (searched .block) (suc i) next c
 
 -- a cost that is below the least so far takes its place
 unfoldable pub considered : Best → Float → ℕ → Best

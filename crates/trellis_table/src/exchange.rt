@@ -2,19 +2,14 @@
 use crate::position;
 use crate::position::Counts;
 use crate::position::Step;
-use bias::DequantBias;
-use block::Shape;
 use steps::reading::Plan;
-use weights::Settings;
 ghost use mathlib.Core.Path.{_≡_};
 ghost use mathlib.Core.Bool.{true, cond};
 ghost use Prim.Native.Nat.{_+_, _*_, _≤_};
 ghost use lib.ListN.{length};
-ghost use Rattle.block.specs.Block.{blockOf, covered, inputRemaining};
-ghost use Rattle.block.specs.Band.{pastWindow};
 ghost use Rattle.block.specs.Checks.{choiceBytes, states};
-ghost use Rattle.prices.specs.Book.{bookOf};
-ghost use Rattle.trellis_table.specs.Rows.{Rowable, TailRow, Rowed, Kept};
+ghost use Rattle.prices.specs.Book.{bookIn};
+ghost use Rattle.trellis_table.specs.Rows.{TailFor, Rowed, Kept};
 
 // Where the costs of the first position stand, and for which counts.
 pub struct Last {
@@ -31,15 +26,10 @@ pub fn live_row<'a>(first: &'a [f32], second: &'a [f32], in_first: bool) -> &'a 
 
 pub fn take_positions(
     factored: bool,
-    clusters: u32,
     map: &[u8],
     configs: &[u8],
     symbols: &[f32],
     ready: &[f32],
-    shape: Shape,
-    settings: Settings,
-    bias: DequantBias,
-    scale: f32,
     scan: &[u32],
     source: &[f32],
     inv_qm: &[f32],
@@ -51,11 +41,11 @@ pub fn take_positions(
     choices: &mut [u8],
     width: usize,
 ) -> Last
-    requires { ⌜ Rowable width (bookOf clusters (now map) (now configs) (now symbols) (now ready)) (blockOf shape settings bias scale (now scan) (now source) (now «inv_qm») (now levels)) plan ⌝ }
-    requires { ⌜ past ≡ pastWindow (plan .window) (blockOf shape settings bias scale (now scan) (now source) (now «inv_qm») (now levels)) ⌝ }
-    requires { ⌜ TailRow (plan .window) (bookOf clusters (now map) (now configs) (now symbols) (now ready)) (blockOf shape settings bias scale (now scan) (now source) (now «inv_qm») (now levels)) (now first) ⌝ }
+    requires { ⌜ width ≤ 12 ⌝ }
+    requires { ⌜ TailFor (bookIn (now map) (now configs) (now symbols) (now ready)) (now scan) (now source) (now «inv_qm») (now levels) plan past (now first) ⌝ }
     requires { ⌜ (states width ≤ length (now first)) × ((states width ≤ length (now second)) × (choiceBytes width * plan .window .length ≤ length (now choices))) ⌝ }
-    ensures { λ r. ⌜ Rowed width (plan .window) (bookOf clusters (now (map .entry)) (now (configs .entry)) (now (symbols .entry)) (now (ready .entry))) (blockOf shape settings bias scale (now (scan .entry)) (now (source .entry)) (now («inv_qm» .entry)) (now (levels .entry))) 0 (now (first .exit)) (now (second .exit)) (now (choices .exit)) (r .step) (r .«in_first») ⌝ }
+    ensures { λ r. ⌜ ((t : TailFor (bookIn (now (map .entry)) (now (configs .entry)) (now (symbols .entry)) (now (ready .entry))) (now (scan .entry)) (now (source .entry)) (now («inv_qm» .entry)) (now (levels .entry)) plan past (now (first .entry)))
+        → Rowed width (plan .window) (bookIn (now (map .entry)) (now (configs .entry)) (now (symbols .entry)) (now (ready .entry))) (t .searched .block) 0 (now (first .exit)) (now (second .exit)) (now (choices .exit)) (r .step) (r .«in_first»)) ⌝ }
     ensures { λ r. ⌜ Kept (now (first .entry)) (now (first .exit)) (now (second .entry)) (now (second .exit)) (now (choices .entry)) (now (choices .exit)) ⌝ }
 {
     let window = plan.window;
@@ -75,15 +65,10 @@ pub fn take_positions(
         if in_first {
             step = position::take_position(
                 factored,
-                clusters,
                 map,
                 configs,
                 symbols,
                 ready,
-                shape,
-                settings,
-                bias,
-                scale,
                 scan,
                 source,
                 inv_qm,
@@ -102,15 +87,10 @@ pub fn take_positions(
         } else {
             step = position::take_position(
                 factored,
-                clusters,
                 map,
                 configs,
                 symbols,
                 ready,
-                shape,
-                settings,
-                bias,
-                scale,
                 scan,
                 source,
                 inv_qm,

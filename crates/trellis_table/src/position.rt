@@ -1,24 +1,19 @@
 // One position of the trellis, its row from the row after it.
-use bias::DequantBias;
-use block::Shape;
 use steps::Place;
 use steps::reading::Plan;
 use trellis_row::row::Span;
-use weights::Settings;
 ghost use mathlib.Core.Path.{_≡_};
 ghost use mathlib.Core.Bool.{cond};
 ghost use lib.Dec.{eqb};
-ghost use Prim.Native.Nat.{suc, _+_, _-_, _*_, _<_, _≤_, max, min};
+ghost use Prim.Native.Nat.{_+_, _-_, _*_, _<_, _≤_, max, min};
 ghost use lib.ListN.{length};
-ghost use Rattle.block.specs.Block.{blockOf, covered, inputRemaining};
-ghost use Rattle.block.specs.Band.{pastWindow};
 ghost use Rattle.block.specs.Checks.{choiceBytes, states};
 ghost use Rattle.candidates.specs.Candidates.{inArray};
 ghost use Rattle.half_bytes.specs.Packed.{unpacked};
-ghost use Rattle.prices.specs.Book.{bookOf};
+ghost use Rattle.prices.specs.Book.{bookIn};
 ghost use Rattle.trellis_choice.specs.Locals.{listed};
 ghost use Rattle.trellis_row.specs.Row.{RowIs, Elsewhere, Workable};
-ghost use Rattle.trellis_table.specs.Rows.{leastCount, riseAt, Rowable, RowAt, Stepped};
+ghost use Rattle.trellis_table.specs.Rows.{leastCount, riseAt, NextFor, Stepped};
 
 // The counts that a row holds.
 pub struct Counts {
@@ -101,7 +96,6 @@ fn span_of(after: usize, next: Counts, width: usize) -> Span
 // A row of a position: factored, or edge by edge.
 fn fill_row(
     factored: bool,
-    clusters: u32,
     map: &[u8],
     configs: &[u8],
     symbols: &[f32],
@@ -117,15 +111,14 @@ fn fill_row(
     least: usize,
     most: usize,
 )
-    requires { ⌜ Workable (bookOf clusters (now map) (now configs) (now symbols) (now ready)) place (inArray count (now levels)) (now next) span most ⌝ }
+    requires { ⌜ Workable (bookIn (now map) (now configs) (now symbols) (now ready)) place (inArray count (now levels)) (now next) span most ⌝ }
     requires { ⌜ (least ≤ most) × ((2 * (most - least) + 1 < length (now current)) × (2 * at + 2 * (most - least) + 1 < length (unpacked (now choices)))) ⌝ }
     ensures { λ s. ⌜ length (now (current .exit)) ≡ length (now (current .entry)) ⌝ }
     ensures { λ s. ⌜ Elsewhere (2 * at) (2 * (most + 1 - least)) (unpacked (now (choices .entry))) (unpacked (now (choices .exit))) ⌝ }
-    ensures { λ s. ⌜ RowIs (bookOf clusters (now (map .entry)) (now (configs .entry)) (now (symbols .entry)) (now (ready .entry))) place (listed (inArray count (now (levels .entry)))) (now (next .entry)) span least (2 * at) (2 * (most + 1 - least)) (now (current .exit)) (unpacked (now (choices .exit))) ⌝ }
+    ensures { λ s. ⌜ RowIs (bookIn (now (map .entry)) (now (configs .entry)) (now (symbols .entry)) (now (ready .entry))) place (listed (inArray count (now (levels .entry)))) (now (next .entry)) span least (2 * at) (2 * (most + 1 - least)) (now (current .exit)) (unpacked (now (choices .exit))) ⌝ }
 {
     if factored {
         trellis_sole::fill_row(
-            clusters,
             map,
             configs,
             symbols,
@@ -144,7 +137,6 @@ fn fill_row(
         return;
     }
     trellis_edges::fill_row(
-        clusters,
         map,
         configs,
         symbols,
@@ -164,15 +156,10 @@ fn fill_row(
 
 pub fn take_position(
     factored: bool,
-    clusters: u32,
     map: &[u8],
     configs: &[u8],
     symbols: &[f32],
     ready: &[f32],
-    shape: Shape,
-    settings: Settings,
-    bias: DequantBias,
-    scale: f32,
     scan: &[u32],
     source: &[f32],
     inv_qm: &[f32],
@@ -187,13 +174,11 @@ pub fn take_position(
     choices: &mut [u8],
     width: usize,
 ) -> Step
-    requires { ⌜ Rowable width (bookOf clusters (now map) (now configs) (now symbols) (now ready)) (blockOf shape settings bias scale (now scan) (now source) (now «inv_qm») (now levels)) plan ⌝ }
-    requires { ⌜ i < plan .window .length ⌝ }
-    requires { ⌜ after ≡ inputRemaining (blockOf shape settings bias scale (now scan) (now source) (now «inv_qm») (now levels)) (covered (blockOf shape settings bias scale (now scan) (now source) (now «inv_qm») (now levels)) + suc i) ⌝ }
-    requires { ⌜ past ≡ pastWindow (plan .window) (blockOf shape settings bias scale (now scan) (now source) (now «inv_qm») (now levels)) ⌝ }
-    requires { ⌜ RowAt width (plan .window) (bookOf clusters (now map) (now configs) (now symbols) (now ready)) (blockOf shape settings bias scale (now scan) (now source) (now «inv_qm») (now levels)) (suc i) (now next) «next_counts» ⌝ }
+    requires { ⌜ (width ≤ 12) × (i < plan .window .length) ⌝ }
+    requires { ⌜ NextFor width (bookIn (now map) (now configs) (now symbols) (now ready)) (now scan) (now source) (now «inv_qm») (now levels) plan past i after (now next) «next_counts» ⌝ }
     requires { ⌜ (states width ≤ length (now next)) × ((states width ≤ length (now current)) × (choiceBytes width * i + choiceBytes width ≤ length (now choices))) ⌝ }
-    ensures { λ r. ⌜ Stepped width (plan .window) (bookOf clusters (now (map .entry)) (now (configs .entry)) (now (symbols .entry)) (now (ready .entry))) (blockOf shape settings bias scale (now (scan .entry)) (now (source .entry)) (now («inv_qm» .entry)) (now (levels .entry))) i (now (current .entry)) (now (current .exit)) (now (choices .entry)) (now (choices .exit)) r ⌝ }
+    ensures { λ r. ⌜ ((t : NextFor width (bookIn (now (map .entry)) (now (configs .entry)) (now (symbols .entry)) (now (ready .entry))) (now (scan .entry)) (now (source .entry)) (now («inv_qm» .entry)) (now (levels .entry)) plan past i after (now (next .entry)) «next_counts»)
+        → Stepped width (plan .window) (bookIn (now (map .entry)) (now (configs .entry)) (now (symbols .entry)) (now (ready .entry))) (t .searched .block) i (now (current .entry)) (now (current .exit)) (now (choices .entry)) (now (choices .exit)) r) ⌝ }
 {
     let mut offered = [0i32; 5];
     let offer = plan.offer(scan, source, inv_qm, levels, i, &mut offered);
@@ -208,7 +193,6 @@ pub fn take_position(
     };
     fill_row(
         factored,
-        clusters,
         map,
         configs,
         symbols,

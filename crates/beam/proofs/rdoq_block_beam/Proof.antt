@@ -2,7 +2,7 @@
 use mathlib.Core.Path.{sym, _∙_}
 use lib.Dec.{lit≤}
 use Rattle.block_checks.proofs.Laws.{passed}
-use Rattle.search_checks.proofs.Refusing.{accepted, accepted-room, room-of}
+use Rattle.search_checks.proofs.Refusing.{accepted-listed, accepted-room, room-of}
 use Rattle.beam.proofs.Calling.{by-check, refused-beam, let-pass, whole}
 use Rattle.beam.proofs.Demand.{promised}
 use borrow.Author.Needs.{needs}
@@ -21,7 +21,7 @@ returns c = whole (promised _ _ _ _ (passed _ 1024 _ (lit≤ tt)) _ (refused-bea
 search-beam-requires : tie.Need-search-beam-requires
 search-beam-requires c κs =
     let none = sym (c .before .before .before .check-search .ensures) ∙ c .before .before .if1 .left in
-    (accepted _ 1024 _ _ _ none (lit≤ tt), room-of 6 0 _ _ 0 0 (accepted-room _ 1024 _ _ _ none) .1 .1)
+    (accepted-listed _ 1024 _ _ _ none (lit≤ tt), room-of 6 0 _ _ 0 0 (accepted-room _ 1024 _ _ _ none) .1 .1)
 
 same-length-2 : tie.Need-same-length-2
 same-length-2 c = search needs

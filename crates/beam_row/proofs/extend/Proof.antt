@@ -4,7 +4,7 @@ use Rattle.beam_paths.specs.Held.{PathsFor}
 use Rattle.beam_paths.specs.Entries.{KeptIs}
 use Rattle.beam_row.specs.Held.{spotOf, Stands}
 use Rattle.least_cost.specs.Position.{Position}
-use Rattle.prices.specs.Book.{bookOf}
+use Rattle.prices.specs.Book.{bookIn}
 use mathlib.Core.List.{List}
 use mathlib.Core.Path.{_≡_, _∙_, ap}
 use native.Mathlib.Omega.{arith}
@@ -19,14 +19,14 @@ use Rattle.beam_row.proofs.extend.Statement.{statement}
 use Rattle.beam_row.proofs.extend.Tie as tie
 
 abbrev Inv-loop : tie.InvT-loop
-Inv-loop clusters map configs symbols ready place levels count paths distortion nonzero kept₀ j₀ kept j =
+Inv-loop map configs symbols ready place levels paths distortion nonzero kept₀ j₀ kept j =
     (j ≤ paths .count)
     × ((kept .count ≡ j)
-    × ((q : Position) (xs : List Path) → Stands (bookOf clusters map configs symbols ready) (spotOf place count levels) q → PathsFor xs paths
+    × ((q : Position) (xs : List Path) → Stands (bookIn map configs symbols ready) (spotOf place 1 levels) q → PathsFor xs paths
     → KeptIs q xs (extended q (getD (q .candidates) 0 (pos 0)) (take j xs)) kept))
 
 abbrev μ-loop : tie.MeasureT-loop
-μ-loop clusters map configs symbols ready place levels count paths distortion nonzero kept₀ j₀ kept j = paths .count - j
+μ-loop map configs symbols ready place levels paths distortion nonzero kept₀ j₀ kept j = paths .count - j
 
 element-copy-out-distortion : tie.Need-element-copy-out-distortion Inv-loop μ-loop
 element-copy-out-distortion c = search needs
@@ -34,7 +34,7 @@ element-copy-out-distortion c = search needs
 distortion-requires : tie.Need-distortion-requires Inv-loop μ-loop
 distortion-requires c κs =
     let pre = c .before .before .before .before .before .pre in
-    usable-level (pre .0 .usable) 0 (omega (arith, pre .1))
+    usable-level (pre .usable) 0 (omega arith)
 
 element-copy-out-nonzero : tie.Need-element-copy-out-nonzero Inv-loop μ-loop
 element-copy-out-nonzero c = search needs
@@ -58,30 +58,30 @@ element-copy-out-extend-path-2 : tie.Need-element-copy-out-extend-path-2 Inv-loo
 element-copy-out-extend-path-2 c = search needs
 
 add-extend-path : tie.Need-add-extend-path Inv-loop μ-loop
-add-extend-path c = let K = c .before .before .before .before .before .before .before .before .before .before .before .before .before .pre .0 in record { fits = omega (arith, sum-fits K (c .before .before .loop-test .taken) _ (c .before .before .before .before .before .nonzero .ensures)) }
+add-extend-path c = let K = c .before .before .before .before .before .before .before .before .before .before .before .before .before .pre in record { fits = omega (arith, sum-fits K (c .before .before .loop-test .taken) _ (c .before .before .before .before .before .nonzero .ensures)) }
 
 mul-extend-path-2 : tie.Need-mul-extend-path-2 Inv-loop μ-loop
 mul-extend-path-2 c = search needs
 
 add-extend-path-2 : tie.Need-add-extend-path-2 Inv-loop μ-loop
-add-extend-path-2 c = let K = c .before .before .before .before .before .before .before .before .before .before .before .before .before .pre .0 in record { fits = omega (arith, pair-below K (c .before .before .loop-test .taken) _ (c .before .before .before .before .before .nonzero .ensures)) }
+add-extend-path-2 c = let K = c .before .before .before .before .before .before .before .before .before .before .before .before .before .pre in record { fits = omega (arith, pair-below K (c .before .before .loop-test .taken) _ (c .before .before .before .before .before .nonzero .ensures)) }
 
 mul-extend-path-3 : tie.Need-mul-extend-path-3 Inv-loop μ-loop
-mul-extend-path-3 c = let K = c .before .before .before .before .before .before .before .before .before .before .before .before .before .pre .0 in record { fits = omega (arith, pair-below K (c .before .before .loop-test .taken) _ (c .before .before .before .before .before .nonzero .ensures)) }
+mul-extend-path-3 c = let K = c .before .before .before .before .before .before .before .before .before .before .before .before .before .pre in record { fits = omega (arith, pair-below K (c .before .before .loop-test .taken) _ (c .before .before .before .before .before .nonzero .ensures)) }
 
 element-copy-out-extend-path-3 : tie.Need-element-copy-out-extend-path-3 Inv-loop μ-loop
-element-copy-out-extend-path-3 c = pair-below (c .before .before .before .before .before .before .before .before .before .before .before .before .before .pre .0) (c .before .before .loop-test .taken) _ (c .before .before .before .before .before .nonzero .ensures)
+element-copy-out-extend-path-3 c = pair-below (c .before .before .before .before .before .before .before .before .before .before .before .before .before .pre) (c .before .before .loop-test .taken) _ (c .before .before .before .before .before .nonzero .ensures)
 
 extend-path-requires : tie.Need-extend-path-requires Inv-loop μ-loop
 extend-path-requires c κs =
     let pre = c .before .before .before .before .before .before .before .before .before .before .before .before .before .before .pre in
-    let K = pre .0 in
+    let K = pre in
     let here = c .before .before .before .loop-test .taken in
-    let level = usable-level (K .usable) 0 (omega (arith, pre .1)) in
+    let level = usable-level (K .usable) 0 (omega arith) in
     (K .priced, ((level, c .before .before .before .before .before .before .before .before .distortion .ensures), ((K .covers, K .offset), (λ h. sum-coded K here _ (c .before .before .before .before .before .before .nonzero .ensures) h, omega (arith, here, K .few)))))
 
 push-requires : tie.Need-push-requires Inv-loop μ-loop
-push-requires c κs = omega (arith, c .before .before .before .before .before .loop .inv .1 .0, c .before .before .before .before .loop-test .taken, c .before .before .before .before .before .before .before .before .before .before .before .before .before .before .before .pre .0 .few)
+push-requires c κs = omega (arith, c .before .before .before .before .before .loop .inv .1 .0, c .before .before .before .before .loop-test .taken, c .before .before .before .before .before .before .before .before .before .before .before .before .before .before .before .pre .few)
 
 add-j : tie.Need-add-j Inv-loop μ-loop
 add-j c = search needs
@@ -95,14 +95,13 @@ loop-again c =
     let inv = c .before .before .before .before .before .before .loop .inv in
     let here = c .before .before .before .before .before .loop-test .taken in
     let nonzero = c .before .before .before .before .before .before .before .before .nonzero .ensures in
-    let only : 0 < c .before .before .before .before .before .before .before .before .before .before .before .before .before .before .before .before .args .count = omega (arith, pre .1) in
     let push = c .push .ensures in (
       search needs,
       (
         push .0 ∙ ap (λ (n : ℕ). n + 1) (inv .1 .0),
         λ q xs S W.
             extended-next _ W here
-            (push .1 q xs _ _ (path-extended xs _ S (pre .0 .usable) (path-here W here) only nonzero (path-tail W here _ nonzero) (path-count W here _) (omega arith) (c .before .extend-path .ensures)) (inv .1 .1 q xs S W)),
+            (push .1 q xs _ _ (path-extended xs _ S (pre .usable) (path-here W here) (omega arith) nonzero (path-tail W here _ nonzero) (path-count W here _) (omega arith) (c .before .extend-path .ensures)) (inv .1 .1 q xs S W)),
       ),
     )
 
@@ -110,8 +109,8 @@ returns : tie.Need-returns Inv-loop μ-loop
 returns c =
     let start = c .before .before .before .before .before .before .before .before .before .before .before in
     let inv = c .before .loop .inv in
-    let last : c .before .loop .j ≡ start .args .t9 .count = omega (arith, inv .0, c .loop-test .left) in
-    (omega (arith, inv .0, inv .1 .0, start .pre .0 .few), λ q xs S W. extended-all _ W last (inv .1 .1 q xs S W))
+    let last : c .before .loop .j ≡ start .args .t7 .count = omega (arith, inv .0, c .loop-test .left) in
+    (omega (arith, inv .0, inv .1 .0, start .pre .few), λ q xs S W. extended-all _ W last (inv .1 .1 q xs S W))
 
 pub extend-spec : {M : Type 1} → statement M
 extend-spec =

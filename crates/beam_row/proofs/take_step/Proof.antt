@@ -1,16 +1,19 @@
 use Rattle.beam_row.proofs.Taking.{taken-sole, taken-several}
+use mathlib.Core.Path.{refl}
 use borrow.Author.Needs.{needs}
 use Rattle.beam_row.proofs.take_step.Statement.{statement}
 use Rattle.beam_row.proofs.take_step.Tie as tie
 
 extend-requires : tie.Need-extend-requires
-extend-requires c κs = search needs
+extend-requires c κs = rw (c .if1 .taken) at (c .before .before .before .before .before .pre)
 
 step-requires : tie.Need-step-requires
 step-requires c κs = c .extend .ensures .0
 
 returns : tie.Need-returns
-returns c = taken-sole (c .before .before .before .before .before .before .before .pre) (c .step .ensures) (c .before .before .if1 .taken) (c .before .extend .ensures .1)
+returns c =
+    let one = c .before .before .if1 .taken in
+    rw one (taken-sole (rw one at (c .before .before .before .before .before .before .before .pre)) (c .step .ensures) refl (c .before .extend .ensures .1))
 
 merge-requires : tie.Need-merge-requires
 merge-requires c κs = search needs

@@ -14,10 +14,10 @@ use Rattle.book_build.proofs.write_ready.Statement.{statement}
 use Rattle.book_build.proofs.write_ready.Tie as tie
 
 abbrev Inv-loop : tie.InvT-loop
-Inv-loop clusters configs symbols ready₀ end i₀ ready i = (i ≤ end) × (ready ≡ paint (readyEntry configs symbols) 0 i ready₀)
+Inv-loop configs symbols ready₀ end i₀ ready i = (i ≤ end) × (ready ≡ paint (readyEntry configs symbols) 0 i ready₀)
 
 abbrev μ-loop : tie.MeasureT-loop
-μ-loop clusters configs symbols ready₀ end i₀ ready i = end - i
+μ-loop configs symbols ready₀ end i₀ ready i = end - i
 
 painted : (c : tie.At-loop Inv-loop μ-loop) → length (c .loop .ready) ≡ length (c .before .before .before .before .args .ready .now)
 painted c = ap length (c .loop .inv .1) ∙ paint-length _ 0 (c .loop .i) _
@@ -32,7 +32,7 @@ cast-cluster-price c = search needs
 cluster-price-requires : tie.Need-cluster-price-requires Inv-loop μ-loop
 cluster-price-requires c κs =
     let start = c .before .before .before .before .before in
-    let row = start .pre .0 (c .before .loop .i / 256) (omega (arith, start .pre .1, c .loop-test .taken)) in
+    let row = start .pre (c .before .loop .i / 256) (omega (arith, c .loop-test .taken)) in
     (row .configured, (row .priced, (row .valid, omega arith)))
 
 mul-ready : tie.Need-mul-ready Inv-loop μ-loop
@@ -66,7 +66,7 @@ returns : tie.Need-returns Inv-loop μ-loop
 returns c =
     let start = c .before .before .before .before .before in
     c .before .loop .inv .1
-    ∙ ap (λ (n : ℕ). paint (readyEntry (start .args .configs .now) (start .args .symbols .now)) 0 n (start .args .ready .now)) (omega (arith, start .pre .1))
+    ∙ ap (λ (n : ℕ). paint (readyEntry (start .args .configs .now) (start .args .symbols .now)) 0 n (start .args .ready .now)) (omega arith)
 
 pub write-ready-spec : {M : Type 1} → statement M
 write-ready-spec =

@@ -2,7 +2,7 @@
 use mathlib.Core.Path.{sym, _∙_}
 use lib.Dec.{lit≤}
 use Rattle.block_checks.proofs.Laws.{passed}
-use Rattle.search_checks.proofs.Refusing.{accepted}
+use Rattle.search_checks.proofs.Refusing.{accepted-listed}
 use Rattle.greedy.proofs.Choosing.{promised, whole}
 use Rattle.greedy.proofs.Settling.{by-check, refused-outcome, let-pass}
 use borrow.Author.Needs.{needs}
@@ -19,7 +19,7 @@ returns : tie.Need-returns
 returns c = whole (promised _ _ _ _ (passed _ 1024 _ (lit≤ tt)) (refused-outcome _ _ _ _ (by-check _ _ _ _ (c .before .check-search .ensures)) (c .if1 .taken)))
 
 search-greedy-requires : tie.Need-search-greedy-requires
-search-greedy-requires c κs = accepted _ 1024 _ _ _ (sym (c .before .before .check-search .ensures) ∙ c .before .if1 .left) (lit≤ tt)
+search-greedy-requires c κs = accepted-listed _ 1024 _ _ _ (sym (c .before .before .check-search .ensures) ∙ c .before .if1 .left) (lit≤ tt)
 
 same-length-2 : tie.Need-same-length-2
 same-length-2 c = search needs

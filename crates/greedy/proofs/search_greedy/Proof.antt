@@ -19,8 +19,8 @@ settle-requires c κs =
     let K = checked-of _ _ (plan .1 .1) (c .before .before .before .before .before .before .before .before .before .pre) (planned-lists _ (plan .0) _ _ _ _) (plan .1 .0) in
     (K .book-passed, (K .coded, (fitting-of K, ready-of K)))
 
-cast-t19 : tie.Need-cast-t19
-cast-t19 c =
+cast-t18 : tie.Need-cast-t18
+cast-t18 c =
     let plan = c .before .before .before .plan-of .ensures in
     let K = checked-of _ _ (plan .1 .1) (c .before .before .before .before .before .before .before .before .before .before .before .pre) (planned-lists _ (plan .0) _ _ _ _) (plan .1 .0) in
     record { fits = omega (arith, counted-few _ _ _ (c .before .settle .ensures .1), fitting-of K .most) }
@@ -35,4 +35,4 @@ returns c =
     settled-outcome _ _ planned (window-of _ _ (plan .1 .1)) (c .before .settle .ensures .0 _ (own-lists _) planned) (c .before .settle .ensures .1)
 
 pub search-greedy-spec : {M : Type 1} → statement M
-search-greedy-spec = tie.close (tie.spec plan-of-requires settle-requires cast-t19 same-length returns)
+search-greedy-spec = tie.close (tie.spec plan-of-requires settle-requires cast-t18 same-length returns)

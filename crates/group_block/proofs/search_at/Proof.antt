@@ -2,7 +2,7 @@
 use Prim.Native.Nat.{ℕ}
 use Rattle.block.specs.Block.{blockOf, covered}
 use Rattle.block.specs.Outcome.{lentOf}
-use Rattle.prices.specs.Book.{bookOf}
+use Rattle.prices.specs.Book.{bookIn}
 use Rattle.searches.specs.Outcome.{searchOutcome}
 use Rattle.weights.specs.Window.{windowOf}
 use Rattle.group_block.specs.Part.{part, inPlace}
@@ -46,7 +46,7 @@ returns c =
     let a = c .before .before .before .before .before .before .before .before .before .before .before .before .before .before .before .before .before .before .before .before .before .before .before .before .before .before .before .before .before .args in
     let words = a .words .now in
     let reals = a .reals .now in
-    let book = bookOf (a .clusters) (a .map .now) (a .configs .now) (a .symbols .now) (a .ready .now) in
+    let book = bookIn (a .map .now) (a .configs .now) (a .symbols .now) (a .ready .now) in
     of-parts
     (λ shape settings bias scale width.
     let b = blockOf shape settings bias scale (part (a .at) (a .n) (a .scans .now)) (part (a .at) (a .n) (a .sources .now)) (part (a .at) (a .n) (a .inv-qms .now)) (part (a .at) (a .n) (a .levels .now)) in

@@ -4,7 +4,7 @@ use lib.ListN.{take, drop}
 use Prim.Native.Nat.{ℕ}
 use Rattle.block.specs.Block.{blockOf, covered}
 use Rattle.block.specs.Outcome.{lentOf}
-use Rattle.prices.specs.Book.{bookOf}
+use Rattle.prices.specs.Book.{bookIn}
 use Rattle.searches.specs.Outcome.{searchOutcome}
 use Rattle.searches.proofs.Results.{whole}
 use Rattle.weights.specs.Window.{windowOf}
@@ -82,7 +82,7 @@ same-length-4 c = search needs
 returns : tie.Need-returns
 returns c =
     let a = c .before .before .before .before .before .before .before .before .before .before .before .before .before .before .before .before .before .before .before .before .before .before .before .before .before .args in
-    let book = bookOf (a .clusters) (a .map .now) (a .configs .now) (a .symbols .now) (a .ready .now) in
+    let book = bookIn (a .map .now) (a .configs .now) (a .symbols .now) (a .ready .now) in
     part-result (a .at) (a .n) (a .levels .now)
     (λ (k : ℕ).
     let b = blockOf (a .shape) (a .settings) (a .bias) (a .scale) (take k (drop (a .at) (a .scans .now))) (take k (drop (a .at) (a .sources .now))) (take k (drop (a .at) (a .inv-qms .now))) (take k (drop (a .at) (a .levels .now))) in

@@ -4,7 +4,7 @@ use mathlib.Core.Bool.{true≢false}
 use Rattle.block.specs.Block as Block
 use Rattle.group_list.specs.Heads.{headAt, covered}
 use Rattle.group_run.specs.Block.{Numbers, Room, lentWith}
-use Rattle.prices.specs.Book.{bookOf}
+use Rattle.prices.specs.Book.{bookIn}
 use Rattle.group_block.specs.Part.{part}
 use Rattle.group_block.proofs.Parts.{count-few, blockFrom, found-next}
 use borrow.Author.Needs.{needs}
@@ -27,7 +27,7 @@ write-count-requires : tie.Need-write-count-requires
 unfolding headAt Block.covered
 write-count-requires c κs =
     let a = c .before .before .before .before .before .before .before .before .before .before .before .before .before .before .before .before .before .before .before .before .before .before .before .before .before .before .before .before .before .before .before .args in
-    let book = bookOf (a .clusters) (a .map .now) (a .configs .now) (a .symbols .now) (a .ready .now) in
+    let book = bookIn (a .map .now) (a .configs .now) (a .symbols .now) (a .ready .now) in
     let h = headAt (a .words .now) (a .reals .now) (a .i) in
     let g : Numbers = record { scans = a .scans .now; sources = a .sources .now; inverses = a .inv-qms .now; levels = a .levels .now } in
     let room : Room = record { choices = a .choices .now; rowA = a .row-a .now; rowB = a .row-b .now } in
@@ -56,7 +56,7 @@ returns : tie.Need-returns
 unfolding headAt covered
 returns c =
     let a = c .before .before .before .before .before .before .before .before .before .before .before .before .before .before .before .before .before .before .before .before .before .before .before .before .before .before .before .before .before .before .before .before .before .before .args in
-    let book = bookOf (a .clusters) (a .map .now) (a .configs .now) (a .symbols .now) (a .ready .now) in
+    let book = bookIn (a .map .now) (a .configs .now) (a .symbols .now) (a .ready .now) in
     let h = headAt (a .words .now) (a .reals .now) (a .i) in
     let g : Numbers = record { scans = a .scans .now; sources = a .sources .now; inverses = a .inv-qms .now; levels = a .levels .now } in
     let room : Room = record { choices = a .choices .now; rowA = a .row-a .now; rowB = a .row-b .now } in
@@ -84,7 +84,7 @@ returns-2 : tie.Need-returns-2
 unfolding headAt covered
 returns-2 c =
     let a = c .before .before .before .before .before .before .before .before .before .before .before .before .before .before .before .before .before .before .before .before .before .before .before .before .before .before .before .before .before .args in
-    let book = bookOf (a .clusters) (a .map .now) (a .configs .now) (a .symbols .now) (a .ready .now) in
+    let book = bookIn (a .map .now) (a .configs .now) (a .symbols .now) (a .ready .now) in
     let h = headAt (a .words .now) (a .reals .now) (a .i) in
     let g : Numbers = record { scans = a .scans .now; sources = a .sources .now; inverses = a .inv-qms .now; levels = a .levels .now } in
     let room : Room = record { choices = a .choices .now; rowA = a .row-a .now; rowB = a .row-b .now } in

@@ -1,7 +1,7 @@
 -- `rdoq_group` meets its contract. Assumes nothing.
 use mathlib.Core.Path.{sym, _∙_}
 use Rattle.group_cells.proofs.Grid.{grid-none}
-use Rattle.prices.specs.Book.{bookOf}
+use Rattle.prices.proofs.Passed.{listed-passed}
 use Rattle.group_calls.proofs.Ending.{refused-by-book, refused-by-list, ran}
 use borrow.Author.Needs.{needs}
 use Rattle.group_calls.proofs.rdoq_group.Statement.{statement}
@@ -23,7 +23,7 @@ slice-aggregate-run-list : tie.Need-slice-aggregate-run-list
 slice-aggregate-run-list c = search needs
 
 run-list-requires : tie.Need-run-list-requires
-run-list-requires c κs = (sym (c .before .before .before .before .before .before .before .before .check-book .ensures) ∙ c .before .before .before .before .before .before .before .if1 .left, (sym (c .before .before .before .before .before .before .check-list .ensures) ∙ c .before .before .before .before .before .if2 .left, grid-none))
+run-list-requires c κs = (listed-passed _ (sym (c .before .before .before .before .before .before .before .before .check-book .ensures) ∙ c .before .before .before .before .before .before .before .if1 .left), (sym (c .before .before .before .before .before .before .check-list .ensures) ∙ c .before .before .before .before .before .if2 .left, grid-none))
 
 same-length : tie.Need-same-length
 same-length c = search needs

@@ -9,7 +9,7 @@ use lib.Ieee.{Float}
 use lib.IntN.{ℤ}
 use Rattle.group_list.specs.Heads.{headAt, blocksIn, covered}
 use Rattle.group_run.specs.Block.{Numbers, Room}
-use Rattle.prices.specs.Book.{bookOf}
+use Rattle.prices.specs.Book.{bookIn}
 use Rattle.group_calls.proofs.Looping.{Looping, here-placed, here-floats, few, looping-none, looping-all, looping-short, inside, looping-stops, looping-more}
 use borrow.Author.Needs.{needs}
 use Rattle.group_calls.proofs.run_list.Statement.{statement}
@@ -22,13 +22,13 @@ abbrev room : List ℕ → List Float → List Float → Room
 room choices rowA rowB = record { choices = choices; rowA = rowA; rowB = rowB }
 
 abbrev Inv-loop : tie.InvT-loop
-Inv-loop search clusters map configs symbols ready words reals scans sources inv-qms levels₀ choices₀ row-a₀ row-b₀ cells₀ blocks i₀ at₀ levels choices row-a row-b cells i at =
+Inv-loop search map configs symbols ready words reals scans sources inv-qms levels₀ choices₀ row-a₀ row-b₀ cells₀ blocks i₀ at₀ levels choices row-a row-b cells i at =
     (blocks ≡ blocksIn words)
-    × (Looping search (bookOf clusters map configs symbols ready) words reals (numbers scans sources inv-qms levels₀) (room choices₀ row-a₀ row-b₀) i at levels (room choices row-a row-b) cells
+    × (Looping search (bookIn map configs symbols ready) words reals (numbers scans sources inv-qms levels₀) (room choices₀ row-a₀ row-b₀) i at levels (room choices row-a row-b) cells
     × ((length levels ≡ length levels₀) × ((length choices ≡ length choices₀) × ((length row-a ≡ length row-a₀) × ((length row-b ≡ length row-b₀) × (length cells ≡ length cells₀))))))
 
 abbrev μ-loop : tie.MeasureT-loop
-μ-loop search clusters map configs symbols ready words reals scans sources inv-qms levels₀ choices₀ row-a₀ row-b₀ cells₀ blocks i₀ at₀ levels choices row-a row-b cells i at =
+μ-loop search map configs symbols ready words reals scans sources inv-qms levels₀ choices₀ row-a₀ row-b₀ cells₀ blocks i₀ at₀ levels choices row-a row-b cells i at =
     blocks - i
 
 loop-holds : tie.Need-loop-holds Inv-loop μ-loop
@@ -45,8 +45,8 @@ enough-requires c κs =
     let L = c .before .before .loop .inv .1 .0 in
     (L .in-scans, (L .in-sources, (L .in-inverses, L .so-far .within)))
 
-cast-t29 : tie.Need-cast-t29 Inv-loop μ-loop
-cast-t29 c = record { fits = omega (arith, c .before .before .before .loop-test .taken, c .before .before .before .before .loop .inv .0, few (c .before .before .before .before .before .before .before .before .before .before .before .before .before .before .before .before .before .before .args .words .now) (c .before .before .before .before .before .before .before .before .before .before .before .before .before .before .before .before .before .before .args .reals .now) (c .before .before .before .before .before .before .before .before .before .before .before .before .before .before .before .before .before .before .pre .1 .0)) }
+cast-t28 : tie.Need-cast-t28 Inv-loop μ-loop
+cast-t28 c = record { fits = omega (arith, c .before .before .before .loop-test .taken, c .before .before .before .before .loop .inv .0, few (c .before .before .before .before .before .before .before .before .before .before .before .before .before .before .before .before .before .before .args .words .now) (c .before .before .before .before .before .before .before .before .before .before .before .before .before .before .before .before .before .before .args .reals .now) (c .before .before .before .before .before .before .before .before .before .before .before .before .before .before .before .before .before .before .pre .1 .0)) }
 
 same-length : tie.Need-same-length Inv-loop μ-loop
 same-length c = search needs
@@ -68,7 +68,7 @@ unfolding headAt covered
 returns c =
     let a = c .before .before .before .before .before .before .before .before .before .before .before .before .before .before .before .before .before .before .args in
     let inv = c .before .before .before .before .loop .inv in
-    let book = bookOf (a .clusters) (a .map .now) (a .configs .now) (a .symbols .now) (a .ready .now) in
+    let book = bookIn (a .map .now) (a .configs .now) (a .symbols .now) (a .ready .now) in
     let words = a .words .now in
     let reals = a .reals .now in
     let g = numbers (a .scans .now) (a .sources .now) (a .inv-qms .now) (a .levels .now) in
@@ -81,7 +81,7 @@ unfolding headAt covered
 settle-block-requires c κs =
     let a = c .before .before .before .before .before .before .before .before .before .before .before .before .before .before .before .before .before .before .before .before .before .before .before .args in
     let inv = c .before .before .before .before .before .before .before .before .before .loop .inv in
-    let book = bookOf (a .clusters) (a .map .now) (a .configs .now) (a .symbols .now) (a .ready .now) in
+    let book = bookIn (a .map .now) (a .configs .now) (a .symbols .now) (a .ready .now) in
     let words = a .words .now in
     let reals = a .reals .now in
     let g = numbers (a .scans .now) (a .sources .now) (a .inv-qms .now) (a .levels .now) in
@@ -98,8 +98,8 @@ settles-requires c κs = search needs
 refusal-in-requires : tie.Need-refusal-in-requires Inv-loop μ-loop
 refusal-in-requires c κs = search needs
 
-cast-t41 : tie.Need-cast-t41 Inv-loop μ-loop
-cast-t41 c = record { fits = omega (arith, c .before .before .before .before .before .before .before .before .before .before .before .before .before .before .before .before .before .before .before .before .before .loop-test .taken, c .before .before .before .before .before .before .before .before .before .before .before .before .before .before .before .before .before .before .before .before .before .before .loop .inv .0, few (c .before .before .before .before .before .before .before .before .before .before .before .before .before .before .before .before .before .before .before .before .before .before .before .before .before .before .before .before .before .before .before .before .before .before .before .before .args .words .now) (c .before .before .before .before .before .before .before .before .before .before .before .before .before .before .before .before .before .before .before .before .before .before .before .before .before .before .before .before .before .before .before .before .before .before .before .before .args .reals .now) (c .before .before .before .before .before .before .before .before .before .before .before .before .before .before .before .before .before .before .before .before .before .before .before .before .before .before .before .before .before .before .before .before .before .before .before .before .pre .1 .0)) }
+cast-t40 : tie.Need-cast-t40 Inv-loop μ-loop
+cast-t40 c = record { fits = omega (arith, c .before .before .before .before .before .before .before .before .before .before .before .before .before .before .before .before .before .before .before .before .before .loop-test .taken, c .before .before .before .before .before .before .before .before .before .before .before .before .before .before .before .before .before .before .before .before .before .before .loop .inv .0, few (c .before .before .before .before .before .before .before .before .before .before .before .before .before .before .before .before .before .before .before .before .before .before .before .before .before .before .before .before .before .before .before .before .before .before .before .before .args .words .now) (c .before .before .before .before .before .before .before .before .before .before .before .before .before .before .before .before .before .before .before .before .before .before .before .before .before .before .before .before .before .before .before .before .before .before .before .before .args .reals .now) (c .before .before .before .before .before .before .before .before .before .before .before .before .before .before .before .before .before .before .before .before .before .before .before .before .before .before .before .before .before .before .before .before .before .before .before .before .pre .1 .0)) }
 
 same-length-6 : tie.Need-same-length-6 Inv-loop μ-loop
 same-length-6 c = search needs
@@ -121,7 +121,7 @@ unfolding headAt covered
 returns-2 c =
     let a = c .before .before .before .before .before .before .before .before .before .before .before .before .before .before .before .before .before .before .before .before .before .before .before .before .before .before .before .before .before .before .before .before .before .before .before .before .args in
     let inv = c .before .before .before .before .before .before .before .before .before .before .before .before .before .before .before .before .before .before .before .before .before .before .loop .inv in
-    let book = bookOf (a .clusters) (a .map .now) (a .configs .now) (a .symbols .now) (a .ready .now) in
+    let book = bookIn (a .map .now) (a .configs .now) (a .symbols .now) (a .ready .now) in
     let words = a .words .now in
     let reals = a .reals .now in
     let g = numbers (a .scans .now) (a .sources .now) (a .inv-qms .now) (a .levels .now) in
@@ -137,13 +137,13 @@ unfolding headAt covered
 add-at c =
     let a = c .before .before .before .before .before .before .before .before .before .before .before .before .before .before .before .before .before .before .before .before .before .before .before .before .before .before .before .before .before .before .before .before .before .before .before .args in
     let inv = c .before .before .before .before .before .before .before .before .before .before .before .before .before .before .before .before .before .before .before .before .before .loop .inv in
-    let book = bookOf (a .clusters) (a .map .now) (a .configs .now) (a .symbols .now) (a .ready .now) in
+    let book = bookIn (a .map .now) (a .configs .now) (a .symbols .now) (a .ready .now) in
     let words = a .words .now in
     let reals = a .reals .now in
     let g = numbers (a .scans .now) (a .sources .now) (a .inv-qms .now) (a .levels .now) in
     let room₀ = room (a .choices .now) (a .row-a .now) (a .row-b .now) in
     let more : c .before .before .before .before .before .before .before .before .before .before .before .before .before .before .before .before .before .before .before .before .before .loop .i < blocksIn words = omega (arith, c .before .before .before .before .before .before .before .before .before .before .before .before .before .before .before .before .before .before .before .before .loop-test .taken, inv .0) in
-    omega (arith, inside (a .search) book words reals g room₀ (inv .1 .0) more (c .before .before .before .before .before .before .before .before .before .before .before .before .before .before .before .before .before .before .before .size-at .ensures) (c .before .before .before .before .before .before .before .before .before .before .before .before .before .before .before .before .before .before .enough .ensures) (not-false _ (c .before .before .before .before .before .before .before .before .before .before .before .before .before .before .before .before .before .if1 .left)) .0, c .before .before .before .before .before .before .before .before .before .before .before .before .before .before .before .before .before .before .before .before .before .before .before .before .before .before .before .before .before .before .before .before .before .before .before .good .1 .1 .1 .1 .1 .1 .1 .1 .0 .0)
+    omega (arith, inside (a .search) book words reals g room₀ (inv .1 .0) more (c .before .before .before .before .before .before .before .before .before .before .before .before .before .before .before .before .before .before .before .size-at .ensures) (c .before .before .before .before .before .before .before .before .before .before .before .before .before .before .before .before .before .before .enough .ensures) (not-false _ (c .before .before .before .before .before .before .before .before .before .before .before .before .before .before .before .before .before .if1 .left)) .0, c .before .before .before .before .before .before .before .before .before .before .before .before .before .before .before .before .before .before .before .before .before .before .before .before .before .before .before .before .before .before .before .before .before .before .before .good .1 .1 .1 .1 .1 .1 .1 .0 .0)
 
 add-i : tie.Need-add-i Inv-loop μ-loop
 add-i c = omega (arith, c .before .before .before .before .before .before .before .before .before .before .before .before .before .before .before .before .before .before .before .before .loop-test .taken, c .before .before .before .before .before .before .before .before .before .before .before .before .before .before .before .before .before .before .before .before .before .loop .inv .0, few (c .before .before .before .before .before .before .before .before .before .before .before .before .before .before .before .before .before .before .before .before .before .before .before .before .before .before .before .before .before .before .before .before .before .before .before .args .words .now) (c .before .before .before .before .before .before .before .before .before .before .before .before .before .before .before .before .before .before .before .before .before .before .before .before .before .before .before .before .before .before .before .before .before .before .before .args .reals .now) (c .before .before .before .before .before .before .before .before .before .before .before .before .before .before .before .before .before .before .before .before .before .before .before .before .before .before .before .before .before .before .before .before .before .before .before .pre .1 .0))
@@ -156,7 +156,7 @@ unfolding headAt covered
 loop-again c =
     let a = c .before .before .before .before .before .before .before .before .before .before .before .before .before .before .before .before .before .before .before .before .before .before .before .before .before .before .before .before .before .before .before .before .before .before .before .args in
     let inv = c .before .before .before .before .before .before .before .before .before .before .before .before .before .before .before .before .before .before .before .before .before .loop .inv in
-    let book = bookOf (a .clusters) (a .map .now) (a .configs .now) (a .symbols .now) (a .ready .now) in
+    let book = bookIn (a .map .now) (a .configs .now) (a .symbols .now) (a .ready .now) in
     let words = a .words .now in
     let reals = a .reals .now in
     let g = numbers (a .scans .now) (a .sources .now) (a .inv-qms .now) (a .levels .now) in
@@ -171,8 +171,8 @@ loop-again c =
       ),
     )
 
-cast-t42 : tie.Need-cast-t42 Inv-loop μ-loop
-cast-t42 c = record { fits = omega (arith, c .before .loop .inv .1 .0 .upto, few (c .before .before .before .before .before .before .before .before .before .before .before .before .before .before .before .args .words .now) (c .before .before .before .before .before .before .before .before .before .before .before .before .before .before .before .args .reals .now) (c .before .before .before .before .before .before .before .before .before .before .before .before .before .before .before .pre .1 .0)) }
+cast-t41 : tie.Need-cast-t41 Inv-loop μ-loop
+cast-t41 c = record { fits = omega (arith, c .before .loop .inv .1 .0 .upto, few (c .before .before .before .before .before .before .before .before .before .before .before .before .before .before .before .args .words .now) (c .before .before .before .before .before .before .before .before .before .before .before .before .before .before .before .args .reals .now) (c .before .before .before .before .before .before .before .before .before .before .before .before .before .before .before .pre .1 .0)) }
 
 same-length-11 : tie.Need-same-length-11 Inv-loop μ-loop
 same-length-11 c = search needs
@@ -193,7 +193,7 @@ returns-3 : tie.Need-returns-3 Inv-loop μ-loop
 returns-3 c =
     let a = c .before .before .before .before .before .before .before .before .before .before .before .before .before .before .before .args in
     let inv = c .before .loop .inv in
-    looping-all (a .search) (bookOf (a .clusters) (a .map .now) (a .configs .now) (a .symbols .now) (a .ready .now)) (a .words .now) (a .reals .now) (numbers (a .scans .now) (a .sources .now) (a .inv-qms .now) (a .levels .now)) (room (a .choices .now) (a .row-a .now) (a .row-b .now)) (inv .1 .0)
+    looping-all (a .search) (bookIn (a .map .now) (a .configs .now) (a .symbols .now) (a .ready .now)) (a .words .now) (a .reals .now) (numbers (a .scans .now) (a .sources .now) (a .inv-qms .now) (a .levels .now)) (room (a .choices .now) (a .row-a .now) (a .row-b .now)) (inv .1 .0)
     (λ k. omega (arith, k, inv .0, c .loop-test .left))
 
 pub run-list-spec : {M : Type 1} → statement M
@@ -205,7 +205,7 @@ run-list-spec =
     loop-holds
     size-at-requires
     enough-requires
-    cast-t29
+    cast-t28
     same-length
     same-length-2
     same-length-3
@@ -215,7 +215,7 @@ run-list-spec =
     settle-block-requires
     settles-requires
     refusal-in-requires
-    cast-t41
+    cast-t40
     same-length-6
     same-length-7
     same-length-8
@@ -226,7 +226,7 @@ run-list-spec =
     add-i
     loop-less
     loop-again
-    cast-t42
+    cast-t41
     same-length-11
     same-length-12
     same-length-13

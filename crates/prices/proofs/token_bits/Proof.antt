@@ -1,17 +1,17 @@
 -- `prices::token_bits` meets its contract. Assumes nothing.
-use Prim.Native.Nat.{_<_}
+use Prim.Native.Nat.{_/_, _<_}
 use native.Mathlib.Omega.{arith}
-use lib.ListN.{getD}
-use Rattle.prices.specs.Book.{bookOf, price}
+use lib.ListN.{length, getD}
+use Rattle.prices.specs.Book.{bookIn, price}
 use Rattle.prices.proofs.Passed.{Passed, passed, priced-in}
 use Rattle.prices.proofs.token_bits.Statement.{statement}
 use Rattle.prices.proofs.token_bits.Tie as tie
 
-known : (c : tie.Start) → Passed (bookOf (c .args .clusters) (c .args .map .now) (c .args .configs .now) (c .args .symbols .now) (c .args .ready .now))
+known : (c : tie.Start) → Passed (bookIn (c .args .map .now) (c .args .configs .now) (c .args .symbols .now) (c .args .ready .now))
 known c = passed _ (c .pre .0)
 
 -- the cluster of the context
-within : (c : tie.Start) → getD (c .args .map .now) (c .args .context) 0 < c .args .clusters
+within : (c : tie.Start) → getD (c .args .map .now) (c .args .context) 0 < length (c .args .configs .now) / 3
 within c = known c .sound .mapped (c .args .context) (c .pre .1 .0)
 
 shared-slice-read-cluster : tie.Need-shared-slice-read-cluster

@@ -11,12 +11,12 @@ check-book-requires c κs = search needs
 returns : tie.Need-returns
 returns c = c .before .check-book .ensures ∙ sym (refused-book _ _ _ _ _ (λ z. c .if1 .taken (c .before .check-book .ensures ∙ z)))
 
-check-searched-requires : tie.Need-check-searched-requires
-check-searched-requires c κs = c .before .before .before .before .before .before .before .before .before .pre
+check-block-and-room-requires : tie.Need-check-block-and-room-requires
+check-block-and-room-requires c κs = c .before .before .before .before .before .before .before .before .before .pre
 
 returns-2 : tie.Need-returns-2
-returns-2 c = c .check-searched .ensures ∙ sym (refused-block _ _ _ _ _ (sym (c .before .before .check-book .ensures) ∙ c .before .if1 .left))
+returns-2 c = c .check-block-and-room .ensures ∙ sym (refused-block _ _ _ _ _ (sym (c .before .before .check-book .ensures) ∙ c .before .if1 .left))
 
 pub check-search-spec : {M : Type 1} → statement M
 check-search-spec =
-    tie.close (tie.spec check-book-requires returns check-searched-requires returns-2)
+    tie.close (tie.spec check-book-requires returns check-block-and-room-requires returns-2)

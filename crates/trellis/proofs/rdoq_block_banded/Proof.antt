@@ -3,7 +3,7 @@ use mathlib.Core.Path.{refl, sym, _∙_}
 use native.Mathlib.Omega.{arith}
 use lib.Dec.{lit≤}
 use Rattle.block_checks.proofs.Laws.{passed}
-use Rattle.search_checks.proofs.Refusing.{accepted, accepted-room, accepted-width}
+use Rattle.search_checks.proofs.Refusing.{accepted-listed, accepted-room, accepted-width}
 use Rattle.trellis.proofs.Banded.{by-check, refused-banded, let-pass, roomy-of, whole}
 use Rattle.trellis.proofs.Demand.{promised}
 use borrow.Author.Needs.{needs}
@@ -36,7 +36,7 @@ search-banded-requires c κs =
     let checked = c .before .before .before .before .before in
     let none = sym (checked .check-search .ensures) ∙ c .before .before .before .before .if1 .left in (
       accepted-width _ 1024 _ _ _ none,
-      (accepted _ 1024 _ _ _ none (lit≤ tt), roomy-of _ _ _ _ _ (checked .before .before .choice-bytes .ensures) (accepted-room _ 1024 _ _ _ none)),
+      (accepted-listed _ 1024 _ _ _ none (lit≤ tt), roomy-of _ _ _ _ _ (checked .before .before .choice-bytes .ensures) (accepted-room _ 1024 _ _ _ none)),
     )
 
 same-length-2 : tie.Need-same-length-2

@@ -1,4 +1,5 @@
 -- `search_banded` meets its contract. Assumes nothing.
+use Rattle.search_checks.proofs.Checked.{searched-of}
 use Rattle.search_checks.proofs.Refusing.{checked-of, window-of}
 use Rattle.steps.proofs.Plans.{planned-lists}
 use Rattle.trellis.proofs.Banded.{searched-banded, room-kept, done-of, done-answer, windowed-answer}
@@ -17,7 +18,7 @@ search-requires c κs =
     let pre = c .before .before .before .before .before .before .before .before .before .before .before .before .before .before .before .pre in
     let plan = c .before .before .before .before .plan-of .ensures in
     let R = room-kept (window-of _ _ (plan .1 .1)) (pre .1 .1) in (
-      record { checked = checked-of _ _ (plan .1 .1) (pre .1 .0) (planned-lists _ (plan .0) _ _ _ _) (plan .1 .0); narrow = pre .0 },
+      (pre .0, searched-of _ (checked-of _ _ (plan .1 .1) (pre .1 .0) (planned-lists _ (plan .0) _ _ _ _) (plan .1 .0))),
       (R .first, (R .second, R .choices-long)),
     )
 
@@ -28,7 +29,7 @@ write-found-requires c κs =
     let plan = planning .plan-of .ensures in
     let found = c .before .before .before .before .before .before .before .before .search .ensures in
     let K = checked-of _ _ (plan .1 .1) (pre .1 .0) (planned-lists _ (plan .0) _ _ _ _) (plan .1 .0) in
-    done-of (pre .0) K (found .1) (still-long (found .0 .choices) (room-kept (window-of _ _ (plan .1 .1)) (pre .1 .1) .choices-long))
+    done-of (pre .0) K (found .1 (searched-of _ K)) (still-long (found .0 .choices) (room-kept (window-of _ _ (plan .1 .1)) (pre .1 .1) .choices-long))
 
 clear-choices-requires : tie.Need-clear-choices-requires
 clear-choices-requires c κs = search needs
@@ -62,7 +63,7 @@ returns c =
     let plan = planning .plan-of .ensures in
     let found = searched .search .ensures in
     let K = checked-of _ _ (plan .1 .1) (pre .1 .0) (planned-lists _ (plan .0) _ _ _ _) (plan .1 .0) in
-    let done = done-answer (pre .0) K (found .1) (still-long (found .0 .choices) (room-kept (window-of _ _ (plan .1 .1)) (pre .1 .1) .choices-long)) (wrote .write-found .ensures) in
+    let done = done-answer (pre .0) K (found .1 (searched-of _ K)) (still-long (found .0 .choices) (room-kept (window-of _ _ (plan .1 .1)) (pre .1 .1) .choices-long)) (wrote .write-found .ensures) in
     searched-banded _ _ _ _ _ (windowed-answer _ _ _ (window-of _ _ (plan .1 .1)) done) (cleared .clear-choices .ensures) (found .0 .choices) (row-cleared .clear-row .ensures) (found .0 .first) (c .before .before .clear-row2 .ensures) (found .0 .second)
 
 pub search-banded-spec : {M : Type 1} → statement M

@@ -2,7 +2,7 @@ use Rattle.half_bytes.specs.Packed.{unpacked}
 use Rattle.half_bytes.proofs.Laws.{unpacked-size}
 use Rattle.ac_context.proofs.Bounds.{covered-most}
 use Rattle.candidates.specs.Candidates.{inArray}
-use Rattle.prices.specs.Book.{bookOf}
+use Rattle.prices.specs.Book.{bookIn}
 use Rattle.trellis_edges.proofs.Tried.{Going, elsewhere-all, elsewhere-again, tried-none, row-is}
 use mathlib.Core.Path.{refl, _∙_}
 use Prim.Native.Nat.{_+_, _-_, _*_}
@@ -12,11 +12,11 @@ use Rattle.trellis_edges.proofs.all_edges.Statement.{statement}
 use Rattle.trellis_edges.proofs.all_edges.Tie as tie
 
 abbrev Inv-loop : tie.InvT-loop
-Inv-loop clusters map configs symbols ready place levels count distortion next span current₀ choices₀ at least most end n₀ current choices n =
-    Going (bookOf clusters map configs symbols ready) place (inArray count levels) next span least most (2 * at) n current₀ current (unpacked choices₀) (unpacked choices)
+Inv-loop map configs symbols ready place levels count distortion next span current₀ choices₀ at least most end n₀ current choices n =
+    Going (bookIn map configs symbols ready) place (inArray count levels) next span least most (2 * at) n current₀ current (unpacked choices₀) (unpacked choices)
 
 abbrev μ-loop : tie.MeasureT-loop
-μ-loop clusters map configs symbols ready place levels count distortion next span current₀ choices₀ at least most end n₀ current choices n = end + 1 - n
+μ-loop map configs symbols ready place levels count distortion next span current₀ choices₀ at least most end n₀ current choices n = end + 1 - n
 
 last-count-requires : tie.Need-last-count-requires Inv-loop μ-loop
 last-count-requires c κs = search needs

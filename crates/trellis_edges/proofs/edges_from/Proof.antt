@@ -1,7 +1,7 @@
 use Rattle.half_bytes.specs.Packed.{unpacked}
 use Rattle.half_bytes.proofs.Laws.{unpacked-size}
 use Rattle.candidates.specs.Candidates.{inArray}
-use Rattle.prices.specs.Book.{bookOf}
+use Rattle.prices.specs.Book.{bookIn}
 use Rattle.steps.proofs.Listed.{listed-length}
 use Rattle.trellis_edges.proofs.Tried.{Trying, elsewhere-all, elsewhere-again, tried-next}
 use mathlib.Core.Path.{_≡_, refl, sym, _∙_}
@@ -12,11 +12,11 @@ use Rattle.trellis_edges.proofs.edges_from.Statement.{statement}
 use Rattle.trellis_edges.proofs.edges_from.Tie as tie
 
 abbrev Inv-loop : tie.InvT-loop
-Inv-loop clusters map configs symbols ready place levels count distortion next span current₀ choices₀ at least most n j₀ current choices j =
-    Trying (bookOf clusters map configs symbols ready) place (inArray count levels) next span least most (2 * at) n j current₀ current (unpacked choices₀) (unpacked choices)
+Inv-loop map configs symbols ready place levels count distortion next span current₀ choices₀ at least most n j₀ current choices j =
+    Trying (bookIn map configs symbols ready) place (inArray count levels) next span least most (2 * at) n j current₀ current (unpacked choices₀) (unpacked choices)
 
 abbrev μ-loop : tie.MeasureT-loop
-μ-loop clusters map configs symbols ready place levels count distortion next span current₀ choices₀ at least most n j₀ current choices j = count - j
+μ-loop map configs symbols ready place levels count distortion next span current₀ choices₀ at least most n j₀ current choices j = count - j
 
 loop-holds : tie.Need-loop-holds Inv-loop μ-loop
 loop-holds c = let pre = c .before .before .before .before .before .before .before .pre in record { upto = search needs; size = refl; elsewhere = elsewhere-all _ _ _; tried = pre .1 .1 .1 .1 }

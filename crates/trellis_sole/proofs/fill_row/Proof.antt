@@ -4,7 +4,7 @@ use Rattle.trellis_sole.proofs.fill_row.Statement.{statement}
 use Rattle.trellis_sole.proofs.fill_row.Tie as tie
 
 fill-sole-requires : tie.Need-fill-sole-requires
-fill-sole-requires c κs = (c .before .before .before .before .before .before .before .before .before .before .pre .0, (c .before .before .if1 .taken, c .before .before .before .before .before .before .before .before .before .before .pre .1))
+fill-sole-requires c κs = let pre = c .before .before .before .before .before .before .before .before .before .before .pre in (rw (c .before .before .if1 .taken) at (pre .0), pre .1)
 
 same-length : tie.Need-same-length
 same-length c = c .before .before .before .before .fill-sole .ensures .0
@@ -13,7 +13,9 @@ same-length-2 : tie.Need-same-length-2
 same-length-2 c = unpacked-size _ _ (c .before .before .before .before .fill-sole .ensures .1 .0 .size)
 
 returns : tie.Need-returns
-returns c = c .before .before .before .before .fill-sole .ensures
+returns c =
+    let filled = c .before .before .before .before .fill-sole .ensures in
+    (filled .0, (filled .1 .0, rw (c .before .before .before .before .before .before .before .if1 .taken) (filled .1 .1)))
 
 fill-row-requires : tie.Need-fill-row-requires
 fill-row-requires c κs = search needs

@@ -3,7 +3,7 @@ use Prim.Native.Nat.{_-_, _≤_, zero-le}
 use native.Mathlib.Omega.{arith}
 use Rattle.beam_paths.specs.Held.{PathsFor}
 use Rattle.block.specs.Block.{Block}
-use Rattle.prices.specs.Book.{bookOf}
+use Rattle.prices.specs.Book.{bookIn}
 use Rattle.steps.specs.Plan.{Planned}
 use Rattle.beam.specs.Beam.{problem}
 use Rattle.beam.specs.Held.{paths}
@@ -18,11 +18,11 @@ use Rattle.beam.proofs.ending.total_of.Reads as total-of-reads
 use Rattle.costs.proofs.infinity.Reads as infinity-reads
 
 abbrev Inv-loop : tie.InvT-loop
-Inv-loop clusters map configs symbols ready plan kept best₀ j₀ j-end best j =
-    (j-end ≡ kept .count) × ((j ≤ j-end) × ((b : Block) → Planned b plan → PathsFor (paths (plan .window) (bookOf clusters map configs symbols ready) b 0) kept → Sofar (problem (plan .window) (bookOf clusters map configs symbols ready) b) (paths (plan .window) (bookOf clusters map configs symbols ready) b 0) j best))
+Inv-loop map configs symbols ready plan kept best₀ j₀ j-end best j =
+    (j-end ≡ kept .count) × ((j ≤ j-end) × ((b : Block) → Planned b plan → PathsFor (paths (plan .window) (bookIn map configs symbols ready) b 0) kept → Sofar (problem (plan .window) (bookIn map configs symbols ready) b) (paths (plan .window) (bookIn map configs symbols ready) b 0) j best))
 
 abbrev μ-loop : tie.MeasureT-loop
-μ-loop clusters map configs symbols ready plan kept best₀ j₀ j-end best j =
+μ-loop map configs symbols ready plan kept best₀ j₀ j-end best j =
     j-end - j
 
 infinity-requires : tie.Need-infinity-requires Inv-loop μ-loop

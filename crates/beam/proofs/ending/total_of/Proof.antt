@@ -22,17 +22,17 @@ mul-result c = record { fits = omega (arith, c .before .before .before .before .
 
 add-result : tie.Need-add-result
 add-result c =
-    let few = first-few (getD (c .before .before .before .before .before .before .args .t7 .remaining) (c .before .before .before .before .before .before .args .j) 0) (c .before .before .before .before .before .before .args .plan .covered) (c .first-prev .ensures) in
+    let few = first-few (getD (c .before .before .before .before .before .before .args .t6 .remaining) (c .before .before .before .before .before .before .args .j) 0) (c .before .before .before .before .before .before .args .plan .covered) (c .first-prev .ensures) in
     record { fits = omega (arith, c .before .before .before .before .before .before .pre .1, c .before .before .before .before .before .before .pre .0 .few) }
 
 mul-result-2 : tie.Need-mul-result-2
 mul-result-2 c =
-    let few = first-few (getD (c .before .before .before .before .before .before .args .t7 .remaining) (c .before .before .before .before .before .before .args .j) 0) (c .before .before .before .before .before .before .args .plan .covered) (c .first-prev .ensures) in
+    let few = first-few (getD (c .before .before .before .before .before .before .args .t6 .remaining) (c .before .before .before .before .before .before .args .j) 0) (c .before .before .before .before .before .before .args .plan .covered) (c .first-prev .ensures) in
     record { fits = omega (arith, c .before .before .before .before .before .before .pre .1, c .before .before .before .before .before .before .pre .0 .few) }
 
 element-copy-out-result : tie.Need-element-copy-out-result
 element-copy-out-result c =
-    let few = first-few (getD (c .before .before .before .before .before .before .args .t7 .remaining) (c .before .before .before .before .before .before .args .j) 0) (c .before .before .before .before .before .before .args .plan .covered) (c .first-prev .ensures) in
+    let few = first-few (getD (c .before .before .before .before .before .before .args .t6 .remaining) (c .before .before .before .before .before .before .args .j) 0) (c .before .before .before .before .before .before .args .plan .covered) (c .first-prev .ensures) in
     omega (arith, c .before .before .before .before .before .before .pre .1, c .before .before .before .before .before .before .pre .0 .few, c .before .before .before .before .before .before .pre .0 .six)
 
 count-cost-requires : tie.Need-count-cost-requires

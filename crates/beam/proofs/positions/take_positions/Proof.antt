@@ -2,7 +2,7 @@ use mathlib.Core.Path.{_≡_, refl, _∙_}
 use Prim.Native.Nat.{_-_, _≤_, _<_}
 use native.Mathlib.Omega.{arith}
 use lib.ListN.{length}
-use Rattle.prices.specs.Book.{bookOf}
+use Rattle.prices.specs.Book.{bookIn}
 use Rattle.search_checks.specs.Checked.{Searched}
 use Rattle.beam.specs.Held.{Reached}
 use Rattle.beam.proofs.Turns.{behind-here, in-window, reached-more}
@@ -14,11 +14,11 @@ use Rattle.beam.proofs.positions.take_positions.Lts as lts
 use Rattle.beam.proofs.positions.take_position.Reads as take-position-reads
 
 abbrev Inv-loop : tie.InvT-loop
-Inv-loop clusters map configs symbols ready scan source inv-qm levels plan from upto choices₀ paths₀ i₀ choices paths i =
-    ((upto ≤ i) × (i ≤ plan .window .length)) × ((length choices ≡ length choices₀) × ((w : Searched (bookOf clusters map configs symbols ready) scan source inv-qm levels plan) → Reached (plan .window) (bookOf clusters map configs symbols ready) (w .block) i choices paths))
+Inv-loop map configs symbols ready scan source inv-qm levels plan from upto choices₀ paths₀ i₀ choices paths i =
+    ((upto ≤ i) × (i ≤ plan .window .length)) × ((length choices ≡ length choices₀) × ((w : Searched (bookIn map configs symbols ready) scan source inv-qm levels plan) → Reached (plan .window) (bookIn map configs symbols ready) (w .block) i choices paths))
 
 abbrev μ-loop : tie.MeasureT-loop
-μ-loop clusters map configs symbols ready scan source inv-qm levels plan from upto choices₀ paths₀ i₀ choices paths i =
+μ-loop map configs symbols ready scan source inv-qm levels plan from upto choices₀ paths₀ i₀ choices paths i =
     i
 
 loop-holds : tie.Need-loop-holds Inv-loop μ-loop

@@ -3,7 +3,7 @@ use Rattle.beam_paths.specs.Held.{noPath}
 use Rattle.beam_row.specs.Held.{spotOf, Stands}
 use Rattle.beam_row.specs.Entries.{Leads, BothOf}
 use Rattle.least_cost.specs.Position.{Position}
-use Rattle.prices.specs.Book.{bookOf}
+use Rattle.prices.specs.Book.{bookIn}
 use mathlib.Core.List.{List, _++_}
 use mathlib.Core.Logic.{⊎-elim}
 use mathlib.Core.Path.{_≡_, refl, sym, _∙_, ap}
@@ -19,14 +19,14 @@ use Rattle.beam_row.proofs.ways.try_levels.Statement.{statement}
 use Rattle.beam_row.proofs.ways.try_levels.Tie as tie
 
 abbrev Inv-loop : tie.InvT-loop
-Inv-loop clusters map configs symbols ready place levels distortion count context nonzero tail j best₀ i₀ best i =
+Inv-loop map configs symbols ready place levels distortion count context nonzero tail j best₀ i₀ best i =
     (i ≤ count)
     × ((best .remaining ≡ best₀ .remaining)
-    × ((q : Position) (xs : List Path) (ws : List Way) → Stands (bookOf clusters map configs symbols ready) (spotOf place count levels) q → Leads xs j nonzero tail (best₀ .remaining) → BothOf q xs ws best₀
+    × ((q : Position) (xs : List Path) (ws : List Way) → Stands (bookIn map configs symbols ready) (spotOf place count levels) q → Leads xs j nonzero tail (best₀ .remaining) → BothOf q xs ws best₀
     → BothOf q xs (ws ++ waysOf (getD xs j noPath) (take i (q .candidates))) best))
 
 abbrev μ-loop : tie.MeasureT-loop
-μ-loop clusters map configs symbols ready place levels distortion count context nonzero tail j best₀ i₀ best i = count - i
+μ-loop map configs symbols ready place levels distortion count context nonzero tail j best₀ i₀ best i = count - i
 
 loop-holds : tie.Need-loop-holds Inv-loop μ-loop
 loop-holds c = (search needs, (refl, λ q xs ws S L b. both-start _ b))
@@ -72,7 +72,7 @@ loop-less c = search needs
 joined : (c : tie.Joined1 Inv-loop μ-loop)
     → let at = c .before .before .before .before in
     let a = at .before .before .before .before .before .args in
-    OneMore (bookOf (a .clusters) (a .map .now) (a .configs .now) (a .symbols .now) (a .ready .now)) (spotOf (a .place) (a .count) (a .levels .now)) (a .j) (a .nonzero) (at .loop .i) (a .tail) (at .loop .best) (c .if1 .best)
+    OneMore (bookIn (a .map .now) (a .configs .now) (a .symbols .now) (a .ready .now)) (spotOf (a .place) (a .count) (a .levels .now)) (a .j) (a .nonzero) (at .loop .i) (a .tail) (at .loop .best) (c .if1 .best)
 joined c =
     let at = c .before .before .before .before in
     let pre = at .before .before .before .before .before .pre in

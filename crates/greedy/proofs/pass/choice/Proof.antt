@@ -74,8 +74,8 @@ run-bits-requires c κs =
 nonzero-requires : tie.Need-nonzero-requires
 nonzero-requires c κs = search needs
 
-sub-t23 : tie.Need-sub-t23
-sub-t23 c =
+sub-t22 : tie.Need-sub-t22
+sub-t22 c =
     let start = c .before .before .before .before .before .before .before .before .before .before .before .before .before .before .before .before .before in
     let pre = start .pre in
     let fitting = pre .1 .1 .0 in
@@ -146,6 +146,6 @@ choice-spec =
     front-requires
     run-bits-requires
     nonzero-requires
-    sub-t23
+    sub-t22
     cheapest-requires
     returns-2)

@@ -1,5 +1,5 @@
 use Rattle.greedy.proofs.Settling.{scan-of, SoFar, so-far-none, next-ready, next-below, next-later, so-far-more, so-far-all}
-use Rattle.prices.specs.Book.{bookOf}
+use Rattle.prices.specs.Book.{bookIn}
 use mathlib.Core.Path.{sym, _∙_}
 use native.Mathlib.Omega.{arith}
 use borrow.Author.Needs.{needs}
@@ -7,11 +7,11 @@ use Rattle.greedy.proofs.pass.settle.Statement.{statement}
 use Rattle.greedy.proofs.pass.settle.Tie as tie
 
 abbrev Inv-loop : tie.InvT-loop
-Inv-loop clusters map configs symbols ready plan scan source inv-qm levels₀ counts₀ i₀ levels counts i =
-    SoFar plan (bookOf clusters map configs symbols ready) scan source inv-qm levels₀ levels counts i
+Inv-loop map configs symbols ready plan scan source inv-qm levels₀ counts₀ i₀ levels counts i =
+    SoFar plan (bookIn map configs symbols ready) scan source inv-qm levels₀ levels counts i
 
 abbrev μ-loop : tie.MeasureT-loop
-μ-loop clusters map configs symbols ready plan scan source inv-qm levels₀ counts₀ i₀ levels counts i = i
+μ-loop map configs symbols ready plan scan source inv-qm levels₀ counts₀ i₀ levels counts i = i
 
 counts-of-requires : tie.Need-counts-of-requires Inv-loop μ-loop
 counts-of-requires c κs =

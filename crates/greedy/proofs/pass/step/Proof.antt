@@ -35,8 +35,8 @@ write-requires c κs =
 nonzero-requires : tie.Need-nonzero-requires
 nonzero-requires c κs = search needs
 
-add-t20 : tie.Need-add-t20
-add-t20 c =
+add-t19 : tie.Need-add-t19
+add-t19 c =
     let start = c .before .before .before .before .before .before .before .before .before .before .before .before .before .before .before in
     let pre = start .pre in
     let fitting = pre .1 .1 .0 in
@@ -47,8 +47,8 @@ add-t20 c =
     let one : c .before .nonzero .result ≤ 1 = rw (c .before .nonzero .ensures) (nz-le _) in
     record { fits = omega (arith, later-few _ _ _ _ inside (counts .0), fitting .most) }
 
-sub-t21 : tie.Need-sub-t21
-sub-t21 c =
+sub-t20 : tie.Need-sub-t20
+sub-t20 c =
     let start = c .before .before .before .before .before .before .before .before .before .before .before .before .before .before .before .before in
     let pre = start .pre in
     let fitting = pre .1 .1 .0 in
@@ -58,8 +58,8 @@ sub-t21 c =
     let inside : start .args .plan .covered + start .args .i < 64 * start .args .plan .covered = omega (arith, fitting .window) in
     others-few _ _ _ _ inside (counts .1) (c .before .before .before .before .write .ensures .0) .0
 
-add-t22 : tie.Need-add-t22
-add-t22 c =
+add-t21 : tie.Need-add-t21
+add-t21 c =
     let start = c .before .before .before .before .before .before .before .before .before .before .before .before .before .before .before .before in
     let pre = start .pre in
     let fitting = pre .1 .1 .0 in
@@ -98,8 +98,8 @@ step-spec =
     add-write
     write-requires
     nonzero-requires
-    add-t20
-    sub-t21
-    add-t22
+    add-t19
+    sub-t20
+    add-t21
     same-length
     returns)

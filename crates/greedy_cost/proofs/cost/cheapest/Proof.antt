@@ -6,7 +6,7 @@ use Rattle.bias.specs.Level.{isLevel}
 use Rattle.block.specs.Block.{Block}
 use Rattle.candidates.specs.Candidates.{inArray}
 use Rattle.least_cost.specs.Search.{holder}
-use Rattle.prices.specs.Book.{bookOf}
+use Rattle.prices.specs.Book.{bookIn}
 use Rattle.steps.proofs.Zero.{level-back}
 use Rattle.steps.specs.Place.{placeOf}
 use Rattle.steps.specs.Plan.{Planned, listed}
@@ -22,15 +22,15 @@ use Rattle.greedy_cost.proofs.cost.cheapest.Statement.{statement}
 use Rattle.greedy_cost.proofs.cost.cheapest.Tie as tie
 
 abbrev Inv-loop : tie.InvT-loop
-Inv-loop clusters map configs symbols ready plan place levels count i around current best₀ j₀ best j =
+Inv-loop map configs symbols ready plan place levels count i around current best₀ j₀ best j =
     (j ≤ count)
     × (T (isLevel (best .level))
     × ((b : Block) → Planned b plan → place ≡ placeOf b (plan .log2) i
-    → holder (costOf (bookOf clusters map configs symbols ready) b i (around .later) (around .others) (around .front) (around .run)) (best .cost) (best .level) (drop j (listed (inArray count levels)))
-    ≡ holder (costOf (bookOf clusters map configs symbols ready) b i (around .later) (around .others) (around .front) (around .run)) (inf false) (toZ w32 current) (listed (inArray count levels))))
+    → holder (costOf (bookIn map configs symbols ready) b i (around .later) (around .others) (around .front) (around .run)) (best .cost) (best .level) (drop j (listed (inArray count levels)))
+    ≡ holder (costOf (bookIn map configs symbols ready) b i (around .later) (around .others) (around .front) (around .run)) (inf false) (toZ w32 current) (listed (inArray count levels))))
 
 abbrev μ-loop : tie.MeasureT-loop
-μ-loop clusters map configs symbols ready plan place levels count i around current best₀ j₀ best j = count - j
+μ-loop map configs symbols ready plan place levels count i around current best₀ j₀ best j = count - j
 
 infinity-requires : tie.Need-infinity-requires Inv-loop μ-loop
 infinity-requires c κs = search needs

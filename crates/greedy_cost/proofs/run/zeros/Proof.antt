@@ -2,7 +2,7 @@ use Rattle.greedy_cost.proofs.Runs.{zeros-next, zeros-last}
 use Rattle.greedy_cost.specs.Run.{none, zerosFrom}
 use Rattle.ac_context.proofs.Bounds.{covered-most}
 use Rattle.block.specs.Block.{Block}
-use Rattle.prices.specs.Book.{bookOf}
+use Rattle.prices.specs.Book.{bookIn}
 use Rattle.steps.specs.Plan.{Planned}
 use lib.Dec.{lit≤}
 use lib.Ieee.{ofBits}
@@ -15,13 +15,13 @@ use Rattle.greedy_cost.proofs.run.zeros.Statement.{statement}
 use Rattle.greedy_cost.proofs.run.zeros.Tie as tie
 
 abbrev Inv-loop : tie.InvT-loop
-Inv-loop clusters map configs symbols ready plan start end sum₀ prev₀ j₀ sum prev j =
+Inv-loop map configs symbols ready plan start end sum₀ prev₀ j₀ sum prev j =
     ((start ≤ j) × (j ≤ end))
     × ((prev ≤ 1)
-    × ((b : Block) → Planned b plan → zerosFrom (bookOf clusters map configs symbols ready) b (end - j) j prev sum ≡ zerosFrom (bookOf clusters map configs symbols ready) b (end - start) start 1 none))
+    × ((b : Block) → Planned b plan → zerosFrom (bookIn map configs symbols ready) b (end - j) j prev sum ≡ zerosFrom (bookIn map configs symbols ready) b (end - start) start 1 none))
 
 abbrev μ-loop : tie.MeasureT-loop
-μ-loop clusters map configs symbols ready plan start end sum₀ prev₀ j₀ sum prev j = end - j
+μ-loop map configs symbols ready plan start end sum₀ prev₀ j₀ sum prev j = end - j
 
 loop-holds : tie.Need-loop-holds Inv-loop μ-loop
 unfolding ofBits

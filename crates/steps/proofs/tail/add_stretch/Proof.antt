@@ -9,7 +9,7 @@ use borrow.Author.Needs.{needs}
 use Rattle.block.specs.Block.{Block}
 use Rattle.least_cost.proofs.Trial.{nz-le}
 use Rattle.least_cost.specs.Position.{nz}
-use Rattle.prices.specs.Book.{bookOf}
+use Rattle.prices.specs.Book.{bookIn}
 use Rattle.steps.specs.Plan.{Planned}
 use Rattle.steps.specs.Tail.{Shared, Standing, Continued}
 use Rattle.steps.specs.declared.reading.Plan.{Plan}
@@ -25,8 +25,8 @@ Inv-loop configs symbols ready scan levels lambda stretch end least k₀ remaini
     × ((k₀ ≤ k)
     × ((remaining ≤ remaining₀)
     × ((k ≡ k₀ → remaining ≡ remaining₀)
-    × ((clusters : ℕ) (map : List ℕ) (b : Block) (plan : Plan) → scan ≡ b .scan → levels ≡ b .levels → Planned b plan → plan .lambda ≡ lambda → Shared plan map k₀ remaining₀ stretch
-    → Continued (bookOf clusters map configs symbols ready) b (length scan) (record { k = k₀; remaining = remaining₀; prev = prev₀; first = first₀; second = second₀ }) (record { k = k; remaining = remaining; prev = prev; first = first; second = second })))))
+    × ((map : List ℕ) (b : Block) (plan : Plan) → scan ≡ b .scan → levels ≡ b .levels → Planned b plan → plan .lambda ≡ lambda → Shared plan map k₀ remaining₀ stretch
+    → Continued (bookIn map configs symbols ready) b (length scan) (record { k = k₀; remaining = remaining₀; prev = prev₀; first = first₀; second = second₀ }) (record { k = k; remaining = remaining; prev = prev; first = first; second = second })))))
 
 abbrev μ-loop : tie.MeasureT-loop
 μ-loop configs symbols ready scan levels lambda stretch end least k₀ remaining₀ prev₀ first₀ second₀ k remaining prev first second = length scan - k
@@ -34,7 +34,7 @@ abbrev μ-loop : tie.MeasureT-loop
 loop-holds : tie.Need-loop-holds Inv-loop μ-loop
 loop-holds c =
     let start = c .before .before .before .before in
-    (start .pre .1 .0, (le-refl _, (le-refl _, ((λ _. refl), λ clusters map b plan es el w e sh. record { first = refl; second = refl }))))
+    (start .pre .1 .0, (le-refl _, (le-refl _, ((λ _. refl), λ map b plan es el w e sh. record { first = refl; second = refl }))))
 
 returns : tie.Need-returns Inv-loop μ-loop
 returns c =
@@ -89,8 +89,8 @@ loop-again c =
           omega (arith, inv .1 .1 .0),
           (
             (λ e. absurd (omega (arith, e, inv .1 .0))),
-            λ clusters map b plan es el w e sh.
-                continued-step (inv .0) here back (c .nonzero .ensures) es el w e sh (omega (arith, counted)) (inv .1 .1 .0) (inv .1 .0) inside some (c .before .stretch-cost .ensures) (inv .1 .1 .1 .1 clusters map b plan es el w e sh),
+            λ map b plan es el w e sh.
+                continued-step (inv .0) here back (c .nonzero .ensures) es el w e sh (omega (arith, counted)) (inv .1 .1 .0) (inv .1 .0) inside some (c .before .stretch-cost .ensures) (inv .1 .1 .1 .1 map b plan es el w e sh),
           ),
         ),
       ),

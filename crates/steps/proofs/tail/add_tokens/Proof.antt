@@ -6,24 +6,23 @@ use native.Mathlib.Omega.{arith}
 use lib.ListN.{length}
 use borrow.Author.Needs.{needs}
 use Rattle.block.specs.Block.{Block}
-use Rattle.prices.specs.Book.{bookOf}
-use Rattle.ac_context.specs.Contexts.{Coefficient}
+use Rattle.prices.specs.Book.{bookIn}
+use Rattle.prices.proofs.Passed.{passed}
 use Rattle.steps.specs.Plan.{Planned}
 use Rattle.steps.specs.Tail.{Standing, Continued}
-use Rattle.steps.proofs.Counting.{among-most}
-use Rattle.steps.proofs.Stretches.{continued-after}
+use Rattle.steps.proofs.Stretches.{both-priced, standing-coefficient, continued-after}
 use Rattle.steps.proofs.Tails.{tokens-done, tokens-past}
 use Rattle.steps.proofs.tail.add_tokens.Statement.{statement}
 use Rattle.steps.proofs.tail.add_tokens.Tie as tie
 
 abbrev Inv-loop : tie.InvT-loop
-Inv-loop clusters map configs symbols ready plan scan levels tail₀ tail =
+Inv-loop map configs symbols ready plan scan levels tail₀ tail =
     Standing scan levels tail
     × ((tail₀ .k ≤ tail .k)
-    × ((b : Block) → scan ≡ b .scan → levels ≡ b .levels → Planned b plan → Continued (bookOf clusters map configs symbols ready) b (length scan) tail₀ tail))
+    × ((b : Block) → scan ≡ b .scan → levels ≡ b .levels → Planned b plan → Continued (bookIn map configs symbols ready) b (length scan) tail₀ tail))
 
 abbrev μ-loop : tie.MeasureT-loop
-μ-loop clusters map configs symbols ready plan scan levels tail₀ tail = length scan - tail .k
+μ-loop map configs symbols ready plan scan levels tail₀ tail = length scan - tail .k
 
 loop-holds : tie.Need-loop-holds Inv-loop μ-loop
 loop-holds c =
@@ -41,27 +40,27 @@ stretch-at-requires c κs =
     let start = c .before .before .before .before .before .before .before .before .before .before in
     let at-loop = c .before .before .before .before in
     let inv = at-loop .loop .inv in
-    let few : at-loop .loop .tail .remaining ≤ length (start .args .scan .now) - at-loop .loop .tail .k = rw (inv .0 .left) (among-most _ _ _ _) in
-    (start .pre .0, (start .pre .1 .0, record { some = omega (arith, c .if2 .left); left = omega (arith, few, inv .0 .ended, start .pre .1 .1 .0); coded = omega (arith, start .pre .1 .1 .1 .1, inv .1 .0); flag = omega arith }))
+    (passed _ (start .pre .0) .sound .contexts, (start .pre .1 .0, standing-coefficient (inv .0) (start .pre .1 .1 .0) (omega (arith, start .pre .1 .1 .1 .1, inv .1 .0)) (c .if2 .left)))
 
 add-stretch-requires : tie.Need-add-stretch-requires Inv-loop μ-loop
 add-stretch-requires c κs =
     let start = c .before .before .before .before .before .before .before .before .before .before .before in
     let inv = c .before .before .before .before .before .loop .inv in
-    let sh = c .stretch-at .ensures .0 in
-    (c .stretch-at .ensures .1, (inv .0, (omega (arith, sh .ends, start .pre .1 .1 .0), sh .some)))
+    let sh = c .stretch-at .ensures in
+    let coded = standing-coefficient (inv .0) (start .pre .1 .1 .0) (omega (arith, start .pre .1 .1 .1 .1, inv .1 .0)) (c .before .if2 .left) in
+    (both-priced (passed _ (start .pre .0)) (start .pre .1 .0) coded sh, (inv .0, (omega (arith, sh .ends, start .pre .1 .1 .0), sh .some)))
 
 loop-less : tie.Need-loop-less Inv-loop μ-loop
 loop-less c =
-    let sh = c .before .stretch-at .ensures .0 in
+    let sh = c .before .stretch-at .ensures in
     let further = c .add-stretch .ensures .1 .0 .1 (sh .here) (sh .counted) in
     omega (arith, further, c .add-stretch .ensures .0 .ended)
 
 loop-again : tie.Need-loop-again Inv-loop μ-loop
 loop-again c =
     let inv = c .before .before .before .before .before .before .loop .inv in
-    let sh = c .before .stretch-at .ensures .0 in
-    (c .add-stretch .ensures .0, (omega (arith, inv .1 .0, c .add-stretch .ensures .1 .0 .0), λ b es el w. continued-after (inv .1 .1 b es el w) (c .add-stretch .ensures .1 .1 _ _ b _ es el w refl sh)))
+    let sh = c .before .stretch-at .ensures in
+    (c .add-stretch .ensures .0, (omega (arith, inv .1 .0, c .add-stretch .ensures .1 .0 .0), λ b es el w. continued-after (inv .1 .1 b es el w) (c .add-stretch .ensures .1 .1 _ b _ es el w refl sh)))
 
 returns-2 : tie.Need-returns-2 Inv-loop μ-loop
 returns-2 c =

@@ -7,14 +7,9 @@ use lib.ListN.{getD}
 use borrow.Author.Needs.{needs}
 use Rattle.ac_context.specs.Contexts.{zeroDensityContext}
 use Rattle.ac_context.proofs.Bounds.{covered-some, covered-most, pair-below, next-context}
-use Rattle.prices.specs.Book.{bookOf}
-use Rattle.prices.proofs.Passed.{Passed, passed, priced-in}
 use Rattle.steps.proofs.Stretches.{end-most, shared}
 use Rattle.steps.proofs.tail.stretch_at.Statement.{statement}
 use Rattle.steps.proofs.tail.stretch_at.Tie as tie
-
-known : (c : tie.Start) → Passed (bookOf (c .args .clusters) (c .args .map .now) (c .args .configs .now) (c .args .symbols .now) (c .args .ready .now))
-known c = passed _ (c .pre .0)
 
 some : (c : tie.Start) → 0 < c .args .plan .covered
 some c = covered-some (c .pre .1 .0 .covers)
@@ -37,12 +32,12 @@ div-end c = search needs
 
 add-end : tie.Need-add-end
 add-end c =
-    let start = c .before .before .before .before .before .before in
+    let start = c .before .before .before in
     omega (arith, start .pre .1 .1 .left, covered-most (start .pre .1 .0 .covers), div-le-self (start .args .k) (start .args .plan .covered))
 
 mul-end : tie.Need-mul-end
 mul-end c =
-    let start = c .before .before .before .before .before .before in
+    let start = c .before .before .before in
     omega (arith, ends start, covered-most (start .pre .1 .0 .covers))
 
 sub-least : tie.Need-sub-least
@@ -53,50 +48,43 @@ div-least c = search needs
 
 mul-least : tie.Need-mul-least
 mul-least c =
-    let start = c .before .before .before .before .before .before in
+    let start = c .before .before .before in
     omega (arith, div-mul-le-self (start .args .remaining - 1) (start .args .plan .covered), start .pre .1 .1 .left, covered-most (start .pre .1 .0 .covers))
 
 add-least : tie.Need-add-least
 add-least c =
-    let start = c .before .before .before .before .before .before in
+    let start = c .before .before .before in
     omega (arith, div-mul-le-self (start .args .remaining - 1) (start .args .plan .covered), start .pre .1 .1 .left, covered-most (start .pre .1 .0 .covers))
 
 shared-slice-read-zero : tie.Need-shared-slice-read-zero
 shared-slice-read-zero c =
-    let start = c .before .before .before .before .before .before .before in
-    omega (arith, known start .sound .contexts, start .pre .1 .0 .offset, c .before .before .zero-density-context .ensures .1)
+    let start = c .before .before .before .before in
+    omega (arith, start .pre .0, start .pre .1 .0 .offset, c .before .before .zero-density-context .ensures .1)
 
 cast-zero : tie.Need-cast-zero
-cast-zero c = omega (arith, c .shared-slice-known5 .given (c .before .before .before .before .before .before .before .args .plan .offset + c .before .before .zero-density-context .result))
+cast-zero c = omega (arith, c .shared-slice-known2 .given (c .before .before .before .before .args .plan .offset + c .before .before .zero-density-context .result))
 
 add-one : tie.Need-add-one
 add-one c = search needs
 
 shared-slice-read-one : tie.Need-shared-slice-read-one
 shared-slice-read-one c =
-    let start = c .before .before .before .before .before .before .before .before in
-    omega (arith, known start .sound .contexts, start .pre .1 .0 .offset, c .before .before .before .zero-density-context .ensures .0, below start)
+    let start = c .before .before .before .before .before in
+    omega (arith, start .pre .0, start .pre .1 .0 .offset, c .before .before .before .zero-density-context .ensures .0, below start)
 
 cast-one : tie.Need-cast-one
-cast-one c = omega (arith, c .shared-slice-known6 .given (c .before .before .before .before .before .before .before .before .args .plan .offset + c .before .before .before .zero-density-context .result + 1))
+cast-one c = omega (arith, c .shared-slice-known3 .given (c .before .before .before .before .before .args .plan .offset + c .before .before .before .zero-density-context .result + 1))
 
 returns : tie.Need-returns
 returns c =
-    let start = c .before .before .before .before .before .before .before .before in
+    let start = c .before .before .before .before .before in
     let plan = start .args .plan in
     let map = start .args .map .now in
     let at = c .before .before .before .zero-density-context .ensures .0 in
     let r = c .before .before .before .zero-density-context .result in
     let next : plan .offset + r + 1 ≡ plan .offset + zeroDensityContext (plan .covered) (start .args .remaining) (start .args .k) 1 =
     omega (arith, at, next-context (plan .covered) (start .args .remaining) (start .args .k)) in
-    let zero-below : plan .offset + r < 14850 = omega (arith, start .pre .1 .0 .offset, c .before .before .before .zero-density-context .ensures .1) in
-    let one-below : plan .offset + r + 1 < 14850 = omega (arith, start .pre .1 .0 .offset, at, below start) in (
-      shared plan map (start .args .remaining) (start .args .k) _ _ (some start) (start .pre .1 .1) (ap (λ (x : ℕ). getD map (plan .offset + x) 0) at) (ap (λ (x : ℕ). getD map x 0) next),
-      (
-        priced-in (known start) (known start .sound .mapped (plan .offset + r) zero-below),
-        priced-in (known start) (known start .sound .mapped (plan .offset + r + 1) one-below),
-      ),
-    )
+    shared plan map (start .args .remaining) (start .args .k) _ _ (some start) (start .pre .1 .1) (ap (λ (x : ℕ). getD map (plan .offset + x) 0) at) (ap (λ (x : ℕ). getD map x 0) next)
 
 pub stretch-at-spec : {M : Type 1} → statement M
 stretch-at-spec =

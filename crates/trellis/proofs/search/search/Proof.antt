@@ -1,17 +1,16 @@
 -- `search::search` meets its contract. Assumes nothing.
-use mathlib.Core.Path.{refl, _∙_}
+use mathlib.Core.Path.{_∙_}
 use native.Mathlib.Omega.{arith}
-use Rattle.search_checks.proofs.Checked.{searched-of, whole-past, window-fits, levels-few, scan-of, window-some}
-use Rattle.trellis.proofs.Whole.{still-long, live-stands, live-room, from-first}
+use Rattle.search_checks.proofs.Checked.{whole-past, window-fits, levels-few, scan-of}
+use Rattle.trellis.proofs.Whole.{still-long, tail-for, first-row, from-first}
 use borrow.Author.Needs.{needs}
 use Rattle.trellis.proofs.search.search.Statement.{statement}
 use Rattle.trellis.proofs.search.search.Tie as tie
 
 start-of-requires : tie.Need-start-of-requires
 start-of-requires c κs =
-    let K = c .before .before .before .before .before .before .before .before .before .before .pre .0 .checked in
-    let s = searched-of _ K in
-    (K .book-passed, (K .coded, (whole-past s, (window-fits s, (scan-of s, levels-few s)))))
+    let s = c .before .before .before .before .before .before .before .before .before .before .pre .0 .1 in
+    (s .checked .book-passed, (s .checked .coded, (whole-past s, (window-fits s, (scan-of s, levels-few s)))))
 
 start-row-requires : tie.Need-start-row-requires
 start-row-requires c κs = omega (arith, c .before .before .before .before .before .before .before .before .before .before .before .before .pre .1 .0)
@@ -19,10 +18,10 @@ start-row-requires c κs = omega (arith, c .before .before .before .before .befo
 take-positions-requires : tie.Need-take-positions-requires
 take-positions-requires c κs =
     let pre = c .before .before .before .before .before .before .before .before .before .before .before .before .before .before .before .before .before .before .pre in
-    let K = pre .0 .checked in
-    let starts = c .before .before .before .before .before .before .before .start-of .ensures _ refl refl (K .passed .scan-long) (K .planned) in
+    let s = pre .0 .1 in
+    let starts = c .before .before .before .before .before .before .before .start-of .ensures _ (s .lists .scan-is) (s .lists .levels-is) (s .checked .passed .scan-long) (s .checked .planned) in
     let row = c .before .before .before .before .before .start-row .ensures in
-    (pre .0, (starts .past-is, (row .1 _ _ _ starts, (rw (row .0) (pre .1 .0), (pre .1 .1 .0, pre .1 .1 .1)))))
+    (pre .0 .0, (tail-for s starts (row .1 _ _ _ starts), (rw (row .0) (pre .1 .0), (pre .1 .1 .0, pre .1 .1 .1))))
 
 live-row-requires : tie.Need-live-row-requires
 live-row-requires c κs = search needs
@@ -30,17 +29,11 @@ live-row-requires c κs = search needs
 best-count-requires : tie.Need-best-count-requires
 best-count-requires c κs =
     let pre = c .before .before .before .before .before .before .before .before .before .before .before .before .before .before .before .before .before .before .before .before .before .before .before .before .before .before .before .before .before .pre in
-    let rowed = c .before .before .before .before .before .before .before .before .before .before .take-positions .ensures in
-    let row = c .before .before .before .before .before .before .before .before .before .before .before .before .before .before .before .before .start-row .ensures in (
-      pre .0,
-      (
-        live-stands (rowed .0) (c .live-row .ensures),
-        (
-          rowed .0 .counts-are (window-some (pre .0 .checked)),
-          live-room (rowed .0) (c .live-row .ensures) (still-long (rowed .1 .first ∙ row .0) (pre .1 .0)) (still-long (rowed .1 .second) (pre .1 .1 .0)),
-        ),
-      ),
-    )
+    let s = pre .0 .1 in
+    let starts = c .before .before .before .before .before .before .before .before .before .before .before .before .before .before .before .before .before .before .start-of .ensures _ (s .lists .scan-is) (s .lists .levels-is) (s .checked .passed .scan-long) (s .checked .planned) in
+    let row = c .before .before .before .before .before .before .before .before .before .before .before .before .before .before .before .before .start-row .ensures in
+    let taken = c .before .before .before .before .before .before .before .before .before .before .take-positions .ensures in
+    first-row s (pre .0 .0) (taken .0 (tail-for s starts (row .1 _ _ _ starts))) (c .live-row .ensures) (still-long (taken .1 .first ∙ row .0) (pre .1 .0)) (still-long (taken .1 .second) (pre .1 .1 .0))
 
 same-length : tie.Need-same-length
 same-length c = search needs
@@ -54,18 +47,21 @@ same-length-3 c = search needs
 returns : tie.Need-returns
 returns c =
     let pre = c .before .before .before .before .before .before .before .before .before .before .before .before .before .before .before .before .before .before .before .before .before .before .before .before .before .before .before .before .before .before .pre in
-    let K = pre .0 .checked in
-    let rowed = c .before .before .before .before .before .before .before .before .before .before .before .take-positions .ensures in
+    let taken = c .before .before .before .before .before .before .before .before .before .before .before .take-positions .ensures in
     let row = c .before .before .before .before .before .before .before .before .before .before .before .before .before .before .before .before .before .start-row .ensures in
-    let starts = c .before .before .before .before .before .before .before .before .before .before .before .before .before .before .before .before .before .before .before .start-of .ensures _ refl refl (K .passed .scan-long) (K .planned) in (
-      record { first = rowed .1 .first ∙ row .0; second = rowed .1 .second; choices = rowed .1 .choices },
-      record {
-        cost-is = c .best-count .ensures .0;
-        count-is = c .best-count .ensures .1;
-        past-is = starts .past-is;
-        nonzeros-are = from-first _ (rowed .0 .after-is);
-        chosen = rowed .0 .chosen;
-      },
+    let kept = taken .1 in (
+      record { first = kept .first ∙ row .0; second = kept .second; choices = kept .choices },
+      λ s.
+          let starts = c .before .before .before .before .before .before .before .before .before .before .before .before .before .before .before .before .before .before .before .start-of .ensures _ (s .lists .scan-is) (s .lists .levels-is) (s .checked .passed .scan-long) (s .checked .planned) in
+          let rowed = taken .0 (tail-for s starts (row .1 _ _ _ starts)) in
+          let best = c .best-count .ensures (first-row s (pre .0 .0) rowed (c .before .live-row .ensures) (still-long (kept .first ∙ row .0) (pre .1 .0)) (still-long (kept .second) (pre .1 .1 .0))) in
+          record {
+            cost-is = best .0;
+            count-is = best .1;
+            past-is = starts .past-is;
+            nonzeros-are = from-first _ (rowed .after-is);
+            chosen = rowed .chosen;
+          },
     )
 
 pub search-spec : {M : Type 1} → statement M

@@ -5,7 +5,7 @@ use mathlib.Core.Path.{_≡_, _∙_, sym, ap}
 use Rattle.trellis_choice.proofs.Noting.{Partly, partly-none, partly-noted, partly-all}
 use Rattle.trellis_choice.specs.Locals.{listed}
 use Rattle.steps.specs.Place.{localIn}
-use Rattle.prices.specs.Book.{bookOf}
+use Rattle.prices.specs.Book.{bookIn}
 use Rattle.candidates.specs.Candidates.{inArray}
 use native.Mathlib.Omega.{arith}
 use Prim.Native.Nat.{_≤_, _-_}
@@ -14,12 +14,12 @@ use Rattle.trellis_choice.proofs.locals.locals_in.Statement.{statement}
 use Rattle.trellis_choice.proofs.locals.locals_in.Tie as tie
 
 abbrev Inv-loop : tie.InvT-loop
-Inv-loop clusters map configs symbols ready place levels count distortion context first₀ second₀ locals₀ j₀ first second locals j =
+Inv-loop map configs symbols ready place levels count distortion context first₀ second₀ locals₀ j₀ first second locals j =
     (j ≤ count)
-    × Partly (localIn (bookOf clusters map configs symbols ready) place context 0) (localIn (bookOf clusters map configs symbols ready) place context 1) (listed (inArray count levels)) j first second locals
+    × Partly (localIn (bookIn map configs symbols ready) place context 0) (localIn (bookIn map configs symbols ready) place context 1) (listed (inArray count levels)) j first second locals
 
 abbrev μ-loop : tie.MeasureT-loop
-μ-loop clusters map configs symbols ready place levels count distortion context first₀ second₀ locals₀ j₀ first second locals j = count - j
+μ-loop map configs symbols ready place levels count distortion context first₀ second₀ locals₀ j₀ first second locals j = count - j
 
 none-requires : tie.Need-none-requires Inv-loop μ-loop
 none-requires c κs = search needs

@@ -3,7 +3,7 @@ use Rattle.ac_context.proofs.Bounds.{covered-most}
 use Rattle.candidates.specs.Candidates.{inArray}
 use Rattle.steps.proofs.Listed.{listed-few}
 use Rattle.trellis_choice.specs.Locals.{listed}
-use Rattle.prices.specs.Book.{bookOf}
+use Rattle.prices.specs.Book.{bookIn}
 use lib.ListN.{length, length-set}
 use native.Mathlib.Nat.{le-refl}
 use native.Mathlib.Omega.{arith}
@@ -16,12 +16,12 @@ use Rattle.trellis_row.proofs.row.fill_row.Statement.{statement}
 use Rattle.trellis_row.proofs.row.fill_row.Tie as tie
 
 abbrev Inv-loop : tie.InvT-loop
-Inv-loop clusters map configs symbols ready place levels count next span current₀ choices₀ at least most distortion first₀ second₀ zero r₀ current choices first second r =
-    SoFar (bookOf clusters map configs symbols ready) place (listed (inArray count levels)) next span (2 * at) least most r current₀ current (unpacked choices₀) (unpacked choices)
+Inv-loop map configs symbols ready place levels count next span current₀ choices₀ at least most distortion first₀ second₀ zero r₀ current choices first second r =
+    SoFar (bookIn map configs symbols ready) place (listed (inArray count levels)) next span (2 * at) least most r current₀ current (unpacked choices₀) (unpacked choices)
     × ((length first ≡ 5) × (length second ≡ 5))
 
 abbrev μ-loop : tie.MeasureT-loop
-μ-loop clusters map configs symbols ready place levels count next span current₀ choices₀ at least most distortion first₀ second₀ zero r₀ current choices first second r = most + 1 - r
+μ-loop map configs symbols ready place levels count next span current₀ choices₀ at least most distortion first₀ second₀ zero r₀ current choices first second r = most + 1 - r
 
 distortions-requires : tie.Need-distortions-requires Inv-loop μ-loop
 distortions-requires c κs = (c .before .before .before .before .before .before .before .before .pre .0 .usable, refl)

@@ -1,4 +1,4 @@
--- `book_checks::check_five` meets its contract: each return is the first check that fails. Assumes nothing.
+-- `book_checks::check_one_to_five` meets its contract: each return is the first check that fails. Assumes nothing.
 use mathlib.Core.Path.{_≡_, sym, _∙_}
 use mathlib.Core.Bool.{true}
 use native.Mathlib.Omega.{arith}
@@ -7,8 +7,8 @@ use Rattle.prices.specs.Book.{Book, bookOf}
 use Rattle.prices.specs.Checks.{check1, check2, check3, check4, check5}
 use Rattle.prices.proofs.Passed.{parts1, parts2, two, two-first}
 use Rattle.prices.proofs.Order.{third, fourth, fifth, none}
-use Rattle.book_checks.proofs.check_five.Statement.{statement}
-use Rattle.book_checks.proofs.check_five.Tie as tie
+use Rattle.book_checks.proofs.check_one_to_five.Statement.{statement}
+use Rattle.book_checks.proofs.check_one_to_five.Tie as tie
 
 abbrev lent : tie.Start → Book
 lent c = bookOf (c .args .clusters) (c .args .map .now) (c .args .configs .now) (c .args .symbols .now) (c .args .ready .now)
@@ -74,8 +74,8 @@ returns-5 c =
     let p = lengths (c .before .before) in
     third _ (p .0) (p .1) (sym (c .before .map-below .ensures) ∙ c .if2 .left)
 
-pub check-five-spec : {M : Type 1} → statement M
-check-five-spec =
+pub check-one-to-five-spec : {M : Type 1} → statement M
+check-one-to-five-spec =
     tie.close
     (tie.spec
     check-lengths-requires

@@ -1,4 +1,4 @@
--- `check_searched` meets its contract: the checks of the block, then 14. Assumes nothing.
+-- `check_block_and_room` meets its contract: the checks of the block, then 14. Assumes nothing.
 use mathlib.Core.Path.{_≡_, sym, _∙_}
 use Prim.Native.Nat.{_*_, _≤_}
 use native.Mathlib.Omega.{arith}
@@ -7,8 +7,8 @@ use Rattle.ac_context.proofs.Domain.{sides-most}
 use Rattle.block.specs.Block.{covered}
 use Rattle.block_checks.proofs.Laws.{passed, later-none, after-all}
 use Rattle.search_checks.proofs.Refusing.{room-answer}
-use Rattle.search_checks.proofs.check_searched.Statement.{statement}
-use Rattle.search_checks.proofs.check_searched.Tie as tie
+use Rattle.search_checks.proofs.check_block_and_room.Statement.{statement}
+use Rattle.search_checks.proofs.check_block_and_room.Tie as tie
 
 check-block-requires : tie.Need-check-block-requires
 check-block-requires c κs = search needs
@@ -50,8 +50,8 @@ returns-3 c =
     let passes = sym (c .before .before .before .before .before .before .check-block .ensures) ∙ c .before .before .before .before .before .if1 .left in
     room-answer _ _ _ _ _ _ (c .before .before .window-under .ensures) (c .before .enough-room .ensures) (c .if2 .left) ∙ sym (after-all _ _ _ _ passes)
 
-pub check-searched-spec : {M : Type 1} → statement M
-check-searched-spec =
+pub check-block-and-room-spec : {M : Type 1} → statement M
+check-block-and-room-spec =
     tie.close
     (tie.spec
     check-block-requires
