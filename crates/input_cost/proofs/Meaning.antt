@@ -26,6 +26,7 @@ use Rattle.least_cost.specs.Position.{Tail, nz}
 use Rattle.least_cost.specs.Search.{countOf, wholeCost}
 use Rattle.least_cost.proofs.Whole.{whole-cost}
 use Rattle.prices.specs.Book.{Book}
+use Rattle.prices.proofs.Passed.{listed, by-lists}
 use Rattle.problem.proofs.Main.{input-in-band}
 use Rattle.problem.proofs.Problem.{sound}
 use Rattle.problem.proofs.Refusals.{searched, still-searched}
@@ -52,6 +53,10 @@ module _ (v : Window) (book : Book) (b : Block) where
   by-check e =
       let none : enoughRoom 0 0 (v .length) 0 0 0 ≡ true = no-rows 0 (v .length) 0 0 0 ∙ ap (λ (n : ℕ). leb n 0) (zero-mul (v .length)) in
       e ∙ ap (searchRefusal halfWidth v book b) none ∙ checks-same
+
+  -- a book that passes is the book of its lists
+  own-lists-of : inputRefusal v book b ≡ 0 → book ≡ listed book
+  own-lists-of e = by-lists book (searched halfWidth v book b true (checks-same ∙ e) .0)
 
   -- ---- the answer
   refused-answer : {n : ℕ} → n ≡ inputRefusal v book b → (n ≡ 0 → ⊥) → Refused n ≡ inputAnswer v book b
@@ -163,8 +168,13 @@ module _ (book : Book) (b : Block) where
     pub refuses : (n ≡ 0 → ⊥) → Promised book b (Refused n)
     refuses some = whole (refused-answer _ book b (by-check _ book b e) some)
 
-    pub answers : n ≡ 0 → {answer : Answer} → answer ≡ Cost (inputCost (windowFor 1024 (covered b)) book b) (inputRemaining b (covered b)) → Promised book b answer
-    answers none ea = whole (ea ∙ cost-answer _ book b (sym (by-check _ book b e) ∙ none))
+    pub answers : n ≡ 0 → {answer : Answer} → answer ≡ Cost (inputCost (windowFor 1024 (covered b)) (listed book) b) (inputRemaining b (covered b)) → Promised book b answer
+    answers none ea =
+        let passing = sym (by-check _ book b e) ∙ none in
+        whole
+          (ea
+          ∙ ap (λ (k : Book). Cost (inputCost (windowFor 1024 (covered b)) k b) (inputRemaining b (covered b))) (sym (own-lists-of (windowFor 1024 (covered b)) book b passing))
+          ∙ cost-answer _ book b passing)
 
 -- the plan's window is document 01's
 pub own-cost : {book : Book} (b : Block) {p : Plan} → Checked book b p → p .window ≡ windowFor 1024 (b .shape .cx * b .shape .cy) → {answer : Answer}

@@ -8,14 +8,13 @@ use weights::Settings;
 ghost use mathlib.Core.Path.{_≡_};
 ghost use Rattle.block.specs.Block.{blockOf, covered, inputRemaining};
 ghost use Rattle.block.specs.declared.Answer.the-variants.{Cost};
-ghost use Rattle.prices.specs.Book.{bookOf};
+ghost use Rattle.prices.specs.Book.{bookOf, bookIn};
 ghost use Rattle.search_checks.specs.Checked.{Accepted};
 ghost use Rattle.weights.specs.Window.{windowFor};
 ghost use Rattle.input_cost.specs.Input.{inputCost, Promised};
 
 // Of a book and a block that passed their checks.
 fn passed_cost(
-    clusters: u32,
     map: &[u8],
     configs: &[u8],
     symbols: &[f32],
@@ -29,13 +28,12 @@ fn passed_cost(
     inv_qm: &[f32],
     levels: &[i32],
 ) -> Answer
-    requires { ⌜ (let b = blockOf shape settings bias scale (now scan) (now source) (now «inv_qm») (now levels) in Accepted (windowFor 1024 (covered b)) (bookOf clusters (now map) (now configs) (now symbols) (now ready)) b) ⌝ }
+    requires { ⌜ (let b = blockOf shape settings bias scale (now scan) (now source) (now «inv_qm») (now levels) in Accepted (windowFor 1024 (covered b)) (bookIn (now map) (now configs) (now symbols) (now ready)) b) ⌝ }
     ensures { λ r. ⌜ (let b = blockOf shape settings bias scale (now (scan .entry)) (now (source .entry)) (now («inv_qm» .entry)) (now (levels .entry)) in
-        r ≡ Cost (inputCost (windowFor 1024 (covered b)) (bookOf clusters (now (map .entry)) (now (configs .entry)) (now (symbols .entry)) (now (ready .entry))) b) (inputRemaining b (covered b))) ⌝ }
+        r ≡ Cost (inputCost (windowFor 1024 (covered b)) (bookIn (now (map .entry)) (now (configs .entry)) (now (symbols .entry)) (now (ready .entry))) b) (inputRemaining b (covered b))) ⌝ }
 {
     let plan = steps::reading::plan_of(shape, settings, bias, scale, weights::WINDOW_CAP);
     sum::cost_of(
-        clusters,
         map,
         configs,
         symbols,
@@ -95,7 +93,6 @@ pub fn rdoq_input_cost(
         return Answer::Refused(refusal);
     }
     passed_cost(
-        clusters,
         map,
         configs,
         symbols,

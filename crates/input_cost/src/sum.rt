@@ -12,7 +12,7 @@ ghost use Rattle.ac_context.specs.Contexts.{Coefficient, Covered};
 ghost use Rattle.bias.specs.Level.{isLevel};
 ghost use Rattle.block.specs.Block.{Block, covered as coveredBy, inputRemaining};
 ghost use Rattle.block.specs.declared.Answer.the-variants.{Cost};
-ghost use Rattle.prices.specs.Book.{bookOf};
+ghost use Rattle.prices.specs.Book.{bookIn};
 ghost use Rattle.prices.specs.Checks.{bookRefusal};
 ghost use Rattle.search_checks.specs.Checked.{Searched};
 ghost use Rattle.steps.specs.Place.{localAt};
@@ -48,7 +48,6 @@ fn by_prev(prev: usize, zero: f32, one: f32) -> f32
 
 // The local cost of a level.
 fn local_cost(
-    clusters: u32,
     map: &[u8],
     configs: &[u8],
     symbols: &[f32],
@@ -58,16 +57,15 @@ fn local_cost(
     prev: usize,
     level: i32,
 ) -> f32
-    requires { ⌜ bookRefusal (bookOf clusters (now map) (now configs) (now symbols) (now ready)) ≡ 0 ⌝ }
+    requires { ⌜ bookRefusal (bookIn (now map) (now configs) (now symbols) (now ready)) ≡ 0 ⌝ }
     requires { ⌜ Covered (place .covered) (place .log2) × (place .offset + 457 < 14850) ⌝ }
     requires { ⌜ (0 < remaining → Coefficient (place .covered) remaining (place .k) 0) ⌝ }
     requires { ⌜ (prev ≤ 1) × T (isLevel level) ⌝ }
-    ensures { λ r. ⌜ r ≡ localAt (bookOf clusters (now (map .entry)) (now (configs .entry)) (now (symbols .entry)) (now (ready .entry))) place remaining prev level ⌝ }
+    ensures { λ r. ⌜ r ≡ localAt (bookIn (now (map .entry)) (now (configs .entry)) (now (symbols .entry)) (now (ready .entry))) place remaining prev level ⌝ }
 {
     let context = place.context(remaining);
     let distortion = place.distortion(level);
     let pair = place.local_pair(
-        clusters,
         map,
         configs,
         symbols,
@@ -81,7 +79,6 @@ fn local_cost(
 
 // What follows the window.
 fn sum_past(
-    clusters: u32,
     map: &[u8],
     configs: &[u8],
     symbols: &[f32],
@@ -90,12 +87,12 @@ fn sum_past(
     scan: &[u32],
     levels: &[i32],
 ) -> Sum
-    requires { ⌜ bookRefusal (bookOf clusters (now map) (now configs) (now symbols) (now ready)) ≡ 0 ⌝ }
+    requires { ⌜ bookRefusal (bookIn (now map) (now configs) (now symbols) (now ready)) ≡ 0 ⌝ }
     requires { ⌜ Coded plan × Within plan (now scan) (now levels) ⌝ }
     ensures { λ r. ⌜ ((b : Block) → now (scan .entry) ≡ b .scan → now (levels .entry) ≡ b .levels → Planned b plan
-        → Summed (plan .window) (bookOf clusters (now (map .entry)) (now (configs .entry)) (now (symbols .entry)) (now (ready .entry))) b (plan .window .length) r) ⌝ }
+        → Summed (plan .window) (bookIn (now (map .entry)) (now (configs .entry)) (now (symbols .entry)) (now (ready .entry))) b (plan .window .length) r) ⌝ }
 {
-    let start = start::start_of(clusters, map, configs, symbols, ready, plan, scan, levels);
+    let start = start::start_of(map, configs, symbols, ready, plan, scan, levels);
     let window = plan.window;
     let prev = prev_at(scan, levels, plan.covered, window.length, start.past);
     Sum {
@@ -106,7 +103,6 @@ fn sum_past(
 
 // Window position i added to `after`, the sum from the next position on.
 fn add_position(
-    clusters: u32,
     map: &[u8],
     configs: &[u8],
     symbols: &[f32],
@@ -119,12 +115,12 @@ fn add_position(
     i: usize,
     after: Sum,
 ) -> Sum
-    requires { ⌜ Searched (bookOf clusters (now map) (now configs) (now symbols) (now ready)) (now scan) (now source) (now «inv_qm») (now levels) plan ⌝ }
+    requires { ⌜ Searched (bookIn (now map) (now configs) (now symbols) (now ready)) (now scan) (now source) (now «inv_qm») (now levels) plan ⌝ }
     requires { ⌜ i < plan .window .length ⌝ }
-    requires { ⌜ ((w : Searched (bookOf clusters (now map) (now configs) (now symbols) (now ready)) (now scan) (now source) (now «inv_qm») (now levels) plan)
-        → Summed (plan .window) (bookOf clusters (now map) (now configs) (now symbols) (now ready)) (w .block) (suc i) after) ⌝ }
-    ensures { λ r. ⌜ ((w : Searched (bookOf clusters (now (map .entry)) (now (configs .entry)) (now (symbols .entry)) (now (ready .entry))) (now (scan .entry)) (now (source .entry)) (now («inv_qm» .entry)) (now (levels .entry)) plan)
-        → Summed (plan .window) (bookOf clusters (now (map .entry)) (now (configs .entry)) (now (symbols .entry)) (now (ready .entry))) (w .block) i r) ⌝ }
+    requires { ⌜ ((w : Searched (bookIn (now map) (now configs) (now symbols) (now ready)) (now scan) (now source) (now «inv_qm») (now levels) plan)
+        → Summed (plan .window) (bookIn (now map) (now configs) (now symbols) (now ready)) (w .block) (suc i) after) ⌝ }
+    ensures { λ r. ⌜ ((w : Searched (bookIn (now (map .entry)) (now (configs .entry)) (now (symbols .entry)) (now (ready .entry))) (now (scan .entry)) (now (source .entry)) (now («inv_qm» .entry)) (now (levels .entry)) plan)
+        → Summed (plan .window) (bookIn (now (map .entry)) (now (configs .entry)) (now (symbols .entry)) (now (ready .entry))) (w .block) i r) ⌝ }
 {
     let k = plan.covered + i;
     let level = steps::level_at(scan, levels, k);
@@ -133,7 +129,6 @@ fn add_position(
     let remaining = after.remaining + steps::nonzero(level);
     let prev = prev_at(scan, levels, plan.covered, i, remaining);
     let local = local_cost(
-        clusters,
         map,
         configs,
         symbols,
@@ -151,7 +146,6 @@ fn add_position(
 
 // The whole cost, and the count.
 pub(crate) fn cost_of(
-    clusters: u32,
     map: &[u8],
     configs: &[u8],
     symbols: &[f32],
@@ -162,17 +156,16 @@ pub(crate) fn cost_of(
     inv_qm: &[f32],
     levels: &[i32],
 ) -> Answer
-    requires { ⌜ Searched (bookOf clusters (now map) (now configs) (now symbols) (now ready)) (now scan) (now source) (now «inv_qm») (now levels) plan ⌝ }
-    ensures { λ r. ⌜ ((w : Searched (bookOf clusters (now (map .entry)) (now (configs .entry)) (now (symbols .entry)) (now (ready .entry))) (now (scan .entry)) (now (source .entry)) (now («inv_qm» .entry)) (now (levels .entry)) plan)
-        → r ≡ Cost (inputCost (plan .window) (bookOf clusters (now (map .entry)) (now (configs .entry)) (now (symbols .entry)) (now (ready .entry))) (w .block)) (inputRemaining (w .block) (coveredBy (w .block)))) ⌝ }
+    requires { ⌜ Searched (bookIn (now map) (now configs) (now symbols) (now ready)) (now scan) (now source) (now «inv_qm») (now levels) plan ⌝ }
+    ensures { λ r. ⌜ ((w : Searched (bookIn (now (map .entry)) (now (configs .entry)) (now (symbols .entry)) (now (ready .entry))) (now (scan .entry)) (now (source .entry)) (now («inv_qm» .entry)) (now (levels .entry)) plan)
+        → r ≡ Cost (inputCost (plan .window) (bookIn (now (map .entry)) (now (configs .entry)) (now (symbols .entry)) (now (ready .entry))) (w .block)) (inputRemaining (w .block) (coveredBy (w .block)))) ⌝ }
 {
     let window = plan.window;
-    let mut sum = sum_past(clusters, map, configs, symbols, ready, plan, scan, levels);
+    let mut sum = sum_past(map, configs, symbols, ready, plan, scan, levels);
     let mut i = window.length;
     while 0 < i {
         i -= 1;
         sum = add_position(
-            clusters,
             map,
             configs,
             symbols,
@@ -186,7 +179,7 @@ pub(crate) fn cost_of(
             sum,
         );
     }
-    let counted = tokens::count_cost(clusters, map, configs, symbols, ready, plan, sum.remaining);
+    let counted = tokens::count_cost(map, configs, symbols, ready, plan, sum.remaining);
     Answer::Cost {
         cost: sum.cost + counted,
         count: sum.remaining as u32,

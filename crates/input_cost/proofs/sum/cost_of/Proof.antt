@@ -2,7 +2,7 @@ use mathlib.Core.Path.{_≡_}
 use Prim.Native.Nat.{suc, _-_, _≤_}
 use native.Mathlib.Nat.{le-refl}
 use native.Mathlib.Omega.{arith}
-use Rattle.prices.specs.Book.{bookOf}
+use Rattle.prices.specs.Book.{bookIn}
 use Rattle.search_checks.specs.Checked.{Searched}
 use Rattle.input_cost.specs.Sum.{Summed}
 use Rattle.input_cost.proofs.Adding.{summed-whole}
@@ -12,11 +12,11 @@ use Rattle.input_cost.proofs.sum.cost_of.Statement.{statement}
 use Rattle.input_cost.proofs.sum.cost_of.Tie as tie
 
 abbrev Inv-loop : tie.InvT-loop
-Inv-loop clusters map configs symbols ready plan scan source inv-qm levels sum₀ i₀ sum i =
-    (i ≤ plan .window .length) × ((w : Searched (bookOf clusters map configs symbols ready) scan source inv-qm levels plan) → Summed (plan .window) (bookOf clusters map configs symbols ready) (w .block) i sum)
+Inv-loop map configs symbols ready plan scan source inv-qm levels sum₀ i₀ sum i =
+    (i ≤ plan .window .length) × ((w : Searched (bookIn map configs symbols ready) scan source inv-qm levels plan) → Summed (plan .window) (bookIn map configs symbols ready) (w .block) i sum)
 
 abbrev μ-loop : tie.MeasureT-loop
-μ-loop clusters map configs symbols ready plan scan source inv-qm levels sum₀ i₀ sum i = i
+μ-loop map configs symbols ready plan scan source inv-qm levels sum₀ i₀ sum i = i
 
 sum-past-requires : tie.Need-sum-past-requires Inv-loop μ-loop
 sum-past-requires c κs =
