@@ -172,9 +172,9 @@ module _ (book : Book) (b : Block) where
     answers none ea =
         let passing = sym (by-check _ book b e) ∙ none in
         whole
-          (ea
-          ∙ ap (λ (k : Book). Cost (inputCost (windowFor 1024 (covered b)) k b) (inputRemaining b (covered b))) (sym (own-lists-of (windowFor 1024 (covered b)) book b passing))
-          ∙ cost-answer _ book b passing)
+        (ea
+        ∙ ap (λ (k : Book). Cost (inputCost (windowFor 1024 (covered b)) k b) (inputRemaining b (covered b))) (sym (own-lists-of (windowFor 1024 (covered b)) book b passing))
+        ∙ cost-answer _ book b passing)
 
 -- the plan's window is document 01's
 pub own-cost : {book : Book} (b : Block) {p : Plan} → Checked book b p → p .window ≡ windowFor 1024 (b .shape .cx * b .shape .cy) → {answer : Answer}

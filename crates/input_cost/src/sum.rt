@@ -65,15 +65,7 @@ fn local_cost(
 {
     let context = place.context(remaining);
     let distortion = place.distortion(level);
-    let pair = place.local_pair(
-        map,
-        configs,
-        symbols,
-        ready,
-        context,
-        level,
-        distortion,
-    );
+    let pair = place.local_pair(map, configs, symbols, ready, context, level, distortion);
     by_prev(prev, pair.first, pair.second)
 }
 
@@ -128,16 +120,7 @@ fn add_position(
     let place = plan.place(i, ideal, level);
     let remaining = after.remaining + steps::nonzero(level);
     let prev = prev_at(scan, levels, plan.covered, i, remaining);
-    let local = local_cost(
-        map,
-        configs,
-        symbols,
-        ready,
-        place,
-        remaining,
-        prev,
-        level,
-    );
+    let local = local_cost(map, configs, symbols, ready, place, remaining, prev, level);
     Sum {
         cost: local + after.cost,
         remaining,
