@@ -1,2 +1,1 @@
-mod Priced
 mod NoWord

@@ -6,11 +6,11 @@ use lib.ListN.{getD}
 use lib.Ieee.{Float, inf}
 use Rattle.prices.specs.Book.{Book, clusterSymbol, price}
 use Rattle.prices.proofs.Costs as costs
-use Rattle.price_leaves.specs.Leaf.{inDomain}
+use Rattle.price_leaves.specs.Leaf.{inDomain, priceReply, pairReply, both}
 use Rattle.answers.specs.declared.answer.Real.{Real}
 use Rattle.answers.specs.declared.answer.RealPair.{RealPair}
 use Rattle.answers.specs.Leaf.{real}
-use Rattle.book_calls.specs.Prices.{priceReply, pairReply, both, symbolIn, Priced, PairPriced}
+use Rattle.book_calls.specs.Prices.{symbolIn, Priced, PairPriced}
 
 infinite : (b : Book) (context v : ℕ) → 127 < symbolIn b context v → price b context v ≡ inf false
 unfolding price symbolIn

@@ -1,17 +1,14 @@
 // The price book: its checks, its prices, and what fills it. A book is lent in five parts: the number of clusters, the cluster of each of the 14,850
 // contexts, and for each cluster three bytes of configuration, 128 symbol prices and 256 ready prices.
-use answers::answer::OUTSIDE;
 use answers::answer::Real;
 use answers::answer::RealPair;
-use price_leaves::Price;
-use price_leaves::PricePair;
 ghost use mathlib.Core.Path.{_≡_};
 ghost use Rattle.prices.specs.Book.{bookOf};
 ghost use Rattle.prices.specs.Checks.{bookRefusal, fillRefusal};
 ghost use Rattle.book_build.specs.Fill.{filledReady};
 ghost use Rattle.book_build.specs.Prefix.{prefixOf, prefixRefusal, prefixSymbols};
 ghost use Rattle.ans_build.specs.Ans.{ansRefusal, ansSymbols};
-ghost use Rattle.book_calls.specs.Prices.{priceReply, pairReply, Priced, PairPriced};
+ghost use Rattle.book_calls.specs.Prices.{Priced, PairPriced};
 
 // The number of the first check among 1 to 6 that a book fails, or 0.
 pub fn check_book(clusters: u32, map: &[u8], configs: &[u8], symbols: &[f32], ready: &[f32]) -> u32
@@ -59,25 +56,6 @@ pub fn ans_symbol_bits(clusters: u32, freqs: &[u16], symbols: &mut [f32]) -> u32
     ans_build::ans_symbol_bits(clusters, freqs, symbols)
 }
 
-// What `token_bits` answers, here and over a view.
-pub(crate) fn price_in(
-    clusters: u32,
-    map: &[u8],
-    configs: &[u8],
-    symbols: &[f32],
-    ready: &[f32],
-    context: u32,
-    value: u32,
-) -> Real
-    ensures { λ r. ⌜ r ≡ priceReply (bookOf clusters (now (map .entry)) (now (configs .entry)) (now (symbols .entry)) (now (ready .entry))) context value ⌝ }
-{
-    let price = price_leaves::token_bits(clusters, map, configs, symbols, ready, context, value);
-    match price {
-        Price::Bits(bits) => Real::Value(bits),
-        Price::Refused(_) => Real::Refused(OUTSIDE),
-    }
-}
-
 // The price of a value of at most 131,071 in a context; +infinity for a value that has no word. Looks at the entries that it reads and at no others.
 pub fn token_bits(
     clusters: u32,
@@ -90,34 +68,7 @@ pub fn token_bits(
 ) -> Real
     ensures { λ r. ⌜ Priced (bookOf clusters (now (map .entry)) (now (configs .entry)) (now (symbols .entry)) (now (ready .entry))) context value r ⌝ }
 {
-    price_in(clusters, map, configs, symbols, ready, context, value)
-}
-
-// What `token_bits_pair` answers, here and over a view.
-pub(crate) fn prices_in(
-    clusters: u32,
-    map: &[u8],
-    configs: &[u8],
-    symbols: &[f32],
-    ready: &[f32],
-    context: u32,
-    value: u32,
-) -> RealPair
-    ensures { λ r. ⌜ r ≡ pairReply (bookOf clusters (now (map .entry)) (now (configs .entry)) (now (symbols .entry)) (now (ready .entry))) context value ⌝ }
-{
-    let pair = price_leaves::token_bits_pair(
-        clusters,
-        map,
-        configs,
-        symbols,
-        ready,
-        context,
-        value,
-    );
-    match pair {
-        PricePair::Bits(first, second) => RealPair::Value(first, second),
-        PricePair::Refused(_) => RealPair::Refused(OUTSIDE),
-    }
+    price_leaves::token_bits(clusters, map, configs, symbols, ready, context, value)
 }
 
 // The prices of a value in a context and the next one.
@@ -132,5 +83,5 @@ pub fn token_bits_pair(
 ) -> RealPair
     ensures { λ r. ⌜ PairPriced (bookOf clusters (now (map .entry)) (now (configs .entry)) (now (symbols .entry)) (now (ready .entry))) context value r ⌝ }
 {
-    prices_in(clusters, map, configs, symbols, ready, context, value)
+    price_leaves::token_bits_pair(clusters, map, configs, symbols, ready, context, value)
 }

@@ -7,13 +7,13 @@ pub use price_view::new;
 ghost use mathlib.Core.Path.{_≡_};
 ghost use Rattle.prices.specs.Book.{bookOf};
 ghost use Rattle.price_view.specs.View.{bookIn};
-ghost use Rattle.book_calls.specs.Prices.{priceReply, pairReply};
+ghost use Rattle.price_leaves.specs.Leaf.{priceReply, pairReply};
 
 // The price of a value of at most 131,071 in a context, as `book::token_bits` answers it.
 pub fn token_bits<'a>(view: PriceView<'a>, context: u32, value: u32) -> Real
     ensures { λ r. ⌜ r ≡ priceReply (bookIn (view .entry)) context value ⌝ }
 {
-    crate::book::price_in(
+    price_leaves::token_bits(
         view.clusters,
         view.map,
         view.configs,
@@ -28,7 +28,7 @@ pub fn token_bits<'a>(view: PriceView<'a>, context: u32, value: u32) -> Real
 pub fn token_bits_pair<'a>(view: PriceView<'a>, context: u32, value: u32) -> RealPair
     ensures { λ r. ⌜ r ≡ pairReply (bookIn (view .entry)) context value ⌝ }
 {
-    crate::book::prices_in(
+    price_leaves::token_bits_pair(
         view.clusters,
         view.map,
         view.configs,

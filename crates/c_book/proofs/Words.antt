@@ -7,8 +7,8 @@ use lib.Ieee.{Float, inf}
 use Rattle.answers.specs.Leaf.{outside, real}
 use Rattle.answers.specs.declared.answer.Real.{Real}
 use Rattle.answers.specs.declared.answer.RealPair.{RealPair}
-use Rattle.book_calls.specs.Prices.{Priced, PairPriced, priceReply, pairReply, symbolIn, both}
-use Rattle.price_leaves.specs.Leaf.{inDomain}
+use Rattle.book_calls.specs.Prices.{Priced, PairPriced, symbolIn}
+use Rattle.price_leaves.specs.Leaf.{inDomain, priceReply, pairReply, both}
 use Rattle.prices.specs.Book.{Book, price}
 use Rattle.c_answers.specs.Told.{realCode, realAfter, pairCode, firstAfter, secondAfter}
 use Rattle.c_book.specs.Prices.{PriceTold, PairTold}

@@ -4,7 +4,8 @@ use mathlib.Core.Path.{_≡_}
 use mathlib.Core.Bool.{false}
 use lib.Ieee.{Float, inf}
 use Rattle.prices.specs.Book.{Book}
-use Rattle.book_calls.specs.Prices.{priceReply, pairReply, symbolIn}
+use Rattle.book_calls.specs.Prices.{symbolIn}
+use Rattle.price_leaves.specs.Leaf.{priceReply, pairReply}
 use Rattle.c_answers.specs.Told.{realCode, realAfter, pairCode, firstAfter, secondAfter}
 
 pub record PriceTold (b : Book) (context v : ℕ) (before : Float) (code : ℕ) (after : Float) : Type 0 where

@@ -1,22 +1,13 @@
 // The price calls that take anything: a price, or refusal 17 (document 01, module 4).
+use answers::answer::OUTSIDE;
+use answers::answer::Real;
+use answers::answer::RealPair;
 ghost use mathlib.Core.Path.{_≡_};
 ghost use mathlib.Core.Bool.{true};
 ghost use Prim.Native.Nat.{_≤_, _<_, _+_};
 ghost use Rattle.prices.specs.Book.{bookOf};
 ghost use Rattle.prices.specs.Checks.{check1, check2};
-ghost use Rattle.price_leaves.specs.Leaf.{tokenReply, pairReply, entryReply};
-
-pub enum Price {
-    Bits(f32),
-    Refused(u32),
-}
-
-pub enum PricePair {
-    Bits(f32, f32),
-    Refused(u32),
-}
-
-const OUTSIDE: u32 = 17;
+ghost use Rattle.price_leaves.specs.Leaf.{priceReply, pairReply, entryReply};
 
 // The price of a value in a context of a book with the right lengths, where the entries that it reads pass their checks.
 fn entry_price(
@@ -27,7 +18,7 @@ fn entry_price(
     ready: &[f32],
     context: usize,
     value: u32,
-) -> Price
+) -> Real
     requires { ⌜ check1 (bookOf clusters (now map) (now configs) (now symbols) (now ready)) ≡ true ⌝ }
     requires { ⌜ check2 (bookOf clusters (now map) (now configs) (now symbols) (now ready)) ≡ true ⌝ }
     requires { ⌜ context < 14850 ⌝ }
@@ -36,25 +27,25 @@ fn entry_price(
 {
     let cluster = map[context] as usize;
     if cluster >= clusters as usize {
-        return Price::Refused(OUTSIDE);
+        return Real::Refused(OUTSIDE);
     }
     let at = 3 * cluster;
     if packing::valid_config(configs[at], configs[at + 1], configs[at + 2]) {
         let split = prices::cluster_split(configs, cluster, value);
         let word = prices::symbol_at(symbols, cluster, split.symbol);
         if book_checks::unpriced(word) != 0 {
-            return Price::Refused(OUTSIDE);
+            return Real::Refused(OUTSIDE);
         }
         let price = prices::cluster_price(configs, symbols, cluster, value);
         if value >= 256 {
-            return Price::Bits(price);
+            return Real::Value(price);
         }
         if book_rows::differs(ready[256 * cluster + value as usize], price) != 0 {
-            return Price::Refused(OUTSIDE);
+            return Real::Refused(OUTSIDE);
         }
-        return Price::Bits(price);
+        return Real::Value(price);
     }
-    Price::Refused(OUTSIDE)
+    Real::Refused(OUTSIDE)
 }
 
 // The price of a value in a context.
@@ -66,17 +57,17 @@ pub fn token_bits(
     ready: &[f32],
     context: u32,
     value: u32,
-) -> Price
-    ensures { λ r. ⌜ r ≡ tokenReply (bookOf clusters (now (map .entry)) (now (configs .entry)) (now (symbols .entry)) (now (ready .entry))) context value ⌝ }
+) -> Real
+    ensures { λ r. ⌜ r ≡ priceReply (bookOf clusters (now (map .entry)) (now (configs .entry)) (now (symbols .entry)) (now (ready .entry))) context value ⌝ }
 {
     if context >= 14850 {
-        return Price::Refused(OUTSIDE);
+        return Real::Refused(OUTSIDE);
     }
     if value > 131071 {
-        return Price::Refused(OUTSIDE);
+        return Real::Refused(OUTSIDE);
     }
     if book_checks::check_lengths(clusters, map, configs, symbols, ready) != 0 {
-        return Price::Refused(OUTSIDE);
+        return Real::Refused(OUTSIDE);
     }
     entry_price(
         clusters,
@@ -98,19 +89,19 @@ pub fn token_bits_pair(
     ready: &[f32],
     context: u32,
     value: u32,
-) -> PricePair
+) -> RealPair
     ensures { λ r. ⌜ r ≡ pairReply (bookOf clusters (now (map .entry)) (now (configs .entry)) (now (symbols .entry)) (now (ready .entry))) context value ⌝ }
 {
     if context >= 14849 {
-        return PricePair::Refused(OUTSIDE);
+        return RealPair::Refused(OUTSIDE);
     }
     let one = token_bits(clusters, map, configs, symbols, ready, context, value);
     let two = token_bits(clusters, map, configs, symbols, ready, context + 1, value);
     match one {
-        Price::Refused(_) => PricePair::Refused(OUTSIDE),
-        Price::Bits(a) => match two {
-            Price::Refused(_) => PricePair::Refused(OUTSIDE),
-            Price::Bits(b) => PricePair::Bits(a, b),
+        Real::Refused(_) => RealPair::Refused(OUTSIDE),
+        Real::Value(a) => match two {
+            Real::Refused(_) => RealPair::Refused(OUTSIDE),
+            Real::Value(b) => RealPair::Value(a, b),
         },
     }
 }

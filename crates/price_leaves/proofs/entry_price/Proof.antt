@@ -12,7 +12,7 @@ use Rattle.prices.specs.Book.{Book, bookOf, at, symbolAt, clusterValid, cluster
 use Rattle.prices.specs.Checks.{symbolPrice, sameBits}
 use Rattle.prices.proofs.Passed.{parts1, parts2}
 use Rattle.prices.proofs.Costs.{cluster-cost}
-use Rattle.price_leaves.specs.declared.Price.the-variants.{Bits}
+use Rattle.answers.specs.declared.answer.Real.the-variants.{Value}
 use Rattle.price_leaves.proofs.Replies.{no-cluster, no-config, no-symbol, no-ready, large, small}
 use Rattle.price_leaves.proofs.entry_price.Statement.{statement}
 use Rattle.price_leaves.proofs.entry_price.Tie as tie
@@ -127,7 +127,7 @@ unfolding price
 returns-3 c =
     let e = c .before .before in
     let t = e .before .before .before .before in
-    ap Bits (c .before .cluster-price .ensures) ∙ large (lent (start2 t)) _ _ (within2 t) (valid2 t) (symbol3 e) (c .if4 .taken)
+    ap Value (c .before .cluster-price .ensures) ∙ large (lent (start2 t)) _ _ (within2 t) (valid2 t) (symbol3 e) (c .if4 .taken)
 
 mul-differs : tie.Need-mul-differs
 mul-differs c = search needs
@@ -159,7 +159,7 @@ returns-5 c =
     let e4 = c .before .before .before in
     let e = e4 .before .before in
     let t = e .before .before .before .before in
-    ap Bits (e4 .before .cluster-price .ensures)
+    ap Value (e4 .before .cluster-price .ensures)
     ∙ small (lent (start2 t)) _ _ (within2 t) (valid2 t) (symbol3 e) (e4 .if4 .left) (compared (c .before) ∙ eq-eqb _ 0 (c .if5 .left))
 
 returns-6 : tie.Need-returns-6

@@ -4,11 +4,11 @@ use Rattle.book_calls.proofs.NoWord.{priced-as}
 use Rattle.book_calls.proofs.book.token_bits.Statement.{statement}
 use Rattle.book_calls.proofs.book.token_bits.Tie as tie
 
-price-in-requires : tie.Need-price-in-requires
-price-in-requires c κs = search needs
+token-bits-requires : tie.Need-token-bits-requires
+token-bits-requires c κs = search needs
 
 returns : tie.Need-returns
-returns c = priced-as _ _ _ _ (c .price-in .ensures)
+returns c = priced-as _ _ _ _ (c .token-bits .ensures)
 
 pub token-bits-spec : {M : Type 1} → statement M
-token-bits-spec = tie.close (tie.spec price-in-requires returns)
+token-bits-spec = tie.close (tie.spec token-bits-requires returns)
