@@ -1,8 +1,8 @@
 //! What the levels of a block cost as they stand: on blocks worked out by hand, beside the sum of the leaf calls, and beside the searches.
 use rdoq::{
-    chroma_weight, distortion_weight, fine_block_context, fine_non_zero_context, fine_zero_density_contexts_offset, input_cost, level,
-    pack_signed, rdoq_block, window_len, zero_density_context, Bias, Block, Book, BookBuilder, InputCost, Refusal, Room, Search,
-    Settings, Shape, CONTEXTS, SYMBOLS,
+    chroma_weight, distortion_weight, fine_block_context, fine_non_zero_context, fine_zero_density_contexts_offset, input_cost,
+    level, pack_signed, rdoq_block, window_len, zero_density_context, Bias, Block, Book, BookBuilder, InputCost, Refusal, Room,
+    Search, Settings, Shape, CONTEXTS, SYMBOLS,
 };
 
 fn book(price: f32) -> Book {
@@ -62,7 +62,17 @@ impl Given {
         let levels = source.iter().map(|x| if x.abs() < 0.8 { 0 } else { x.round() as i32 }).collect();
         let settings = Settings { lambda: 0.05 + next(), distance: 3.0 * next(), ..Settings::default() };
         let shape = Shape { cx, cy, strategy, channel, qf_hi: seed % 2 == 1, predicted: (next() * 40.0) as u8 };
-        Given { book, shape, settings, bias: Bias::DEFAULT[channel as usize], scale: 1.0, scan, source, inv_qm: vec![1.0; n], levels }
+        Given {
+            book,
+            shape,
+            settings,
+            bias: Bias::DEFAULT[channel as usize],
+            scale: 1.0,
+            scan,
+            source,
+            inv_qm: vec![1.0; n],
+            levels,
+        }
     }
 
     fn block(&self) -> Block<'_> {
