@@ -48,8 +48,8 @@ count-cost-requires c κs =
     let w = c .before .before .before .before .before .before .before .before .before .before .before .pre in
     (w .checked .book-passed, (w .checked .coded, remaining-small w _ (c .before .loop .inv .1 w .remaining-is)))
 
-cast-t17 : tie.Need-cast-t17 Inv-loop μ-loop
-cast-t17 c =
+cast-t16 : tie.Need-cast-t16 Inv-loop μ-loop
+cast-t16 c =
     let w = c .before .before .before .before .before .before .before .before .before .before .before .before .before .before .pre in
     let few = remaining-small w _ (c .before .before .before .before .loop .inv .1 w .remaining-is) in
     record { fits = omega (arith, few) }
@@ -74,5 +74,5 @@ cost-of-spec =
     loop-less
     loop-again
     count-cost-requires
-    cast-t17
+    cast-t16
     returns)
