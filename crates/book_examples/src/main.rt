@@ -2,14 +2,14 @@
 // the answer. Prices are printed as the eight hexadecimal digits of their bits. Then values priced through a view, see `views`.
 mod views;
 
+use answers::answer::Real;
+use answers::answer::RealPair;
+use book_calls::book::check_book;
+use book_calls::book::fill_ready;
+use book_calls::book::prefix_symbol_bits;
+use book_calls::book::token_bits;
+use book_calls::book::token_bits_pair;
 use libc::STDOUT_FILENO;
-use rdoq::answer::Real;
-use rdoq::answer::RealPair;
-use rdoq::book::check_book;
-use rdoq::book::fill_ready;
-use rdoq::book::prefix_symbol_bits;
-use rdoq::book::token_bits;
-use rdoq::book::token_bits_pair;
 ghost use mathlib.Core.Path.{_≡_};
 ghost use Prim.Native.Nat.{_≤_, _<_};
 ghost use lib.ListN.{length};

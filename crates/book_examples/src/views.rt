@@ -1,10 +1,10 @@
 // Values priced through a view and through plain slices. Prints what the view answers and whether the plain call answers the same: a refusal's number, or a
 // price as the eight hexadecimal digits of its bits.
+use answers::answer::Real;
+use answers::answer::RealPair;
+use book_calls::book;
+use book_calls::view;
 use libc::STDOUT_FILENO;
-use rdoq::answer::Real;
-use rdoq::answer::RealPair;
-use rdoq::book;
-use rdoq::view;
 ghost use mathlib.Core.Path.{_≡_};
 ghost use lib.ListN.{length};
 
