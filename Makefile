@@ -32,8 +32,8 @@ WITHOUT ?=
 MODE ?= times
 PASSES ?= 31
 
-# Crates and edits that rt tries at a time. It waits for the whole of a batch, so that two processors idle less with six; each takes up to a gigabyte.
-RT_JOBS ?= 6
+# Crates and edits that rt tries at a time. It waits for the whole of a batch, so that two processors idle less with four; each takes up to a gigabyte.
+RT_JOBS ?= 4
 export RT_JOBS
 
 # The Rust, for comparisons: the folder that holds src/group/trellis.rs.
