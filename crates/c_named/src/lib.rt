@@ -1,4 +1,4 @@
-// A search by its number, for the exported calls that search.
+// A search by its number, for the exported calls that search and for the program.
 use searches::Search;
 ghost use mathlib.Core.Path.{_≡_};
 ghost use Rattle.c_named.specs.Named.{searchNamed};
