@@ -1,7 +1,7 @@
 # make test       the whole gate: layout, proofs, must-fail edits, programs; then the bindings and a short comparison, where their tools are at hand
 # make quick      for the desk, not the verdict: what changed and what stands above it is proved, and the programs run; no edits
-# make run        the searches on a sample, with costs before and after; before that program is proved, the same sources built without a proof
-# make prove      proves the main program, that of `make run`, and what they stand on, a line for each crate
+# make run        the main program on a sample; before it is proved, the same sources built without a proof
+# make prove      proves the main program and what it stands on, a line for each crate
 # make library    the static library for C and Rust, target/staticlib/librdoq_c.a
 # make dist       the library packed for others, target/dist/rdoq-VERSION-x86_64-linux.tar.gz; make dist-twice builds it twice and compares
 # make install PREFIX=/usr/local
@@ -32,16 +32,15 @@ WITHOUT ?=
 MODE ?= times
 PASSES ?= 31
 
-# Crates and edits that rt tries at a time. It waits for the whole of a batch, so that two processors idle less with six; each takes up to two gigabytes, its
-# short-lived files included.
-RT_JOBS ?= $(shell awk '/^MemAvailable/ { n = int($$2 / 2000000); print (n < 1 ? 1 : (n > 6 ? 6 : n)) }' /proc/meminfo)
+# Crates and edits that rt tries at a time. It waits for the whole of a batch, so that two processors idle less with four; each takes up to a gigabyte.
+RT_JOBS ?= 4
 export RT_JOBS
 
 # The Rust, for comparisons: the folder that holds src/group/trellis.rs.
 JIXEL_SRC ?= $(abspath ../shared/docs/src)
 export JIXEL_SRC
 
-.PHONY: test gate-bindings gate-compare quick run prove library dist dist-twice install bindings fuzz compare coupon bench
+.PHONY: test quick run prove library dist dist-twice install bindings fuzz compare coupon bench
 
 # rt's closing line, 'N passed, 0 failed', is kept back and printed last.
 test:
@@ -50,20 +49,14 @@ test:
 	@tools/ans_table.py --check
 	@tools/refusals.py --check
 	@tools/contracts.py --check
-	@export TMPDIR="$$(tools/fast_tmp.sh)"; log=$$(mktemp); rt ci | tee "$$log" | awk 'NR > 1 { print last; fflush() } { last = $$0 } END { print last > "target/verdict.txt" }'; mv "$$log" target/ci.log
+	@log=$$(mktemp); rt ci | tee "$$log" | awk 'NR > 1 { print last; fflush() } { last = $$0 } END { print last > "target/verdict.txt" }'; mv "$$log" target/ci.log
 	@tools/gate_times.sh target/ci.log > target/gate-times.txt || true; tail -n 1 target/gate-times.txt
 	@tools/edit_logs.sh
-	@$(MAKE) library
-	@$(MAKE) -j2 gate-bindings gate-compare
-	@cat target/verdict.txt
-
-gate-bindings:
 	@$(MAKE) bindings > target/bindings.log 2>&1 || { cat target/bindings.log; exit 1; }
 	@grep '^bindings:' target/bindings.log
-
-gate-compare:
 	@if command -v cargo > /dev/null && [ -f "$(JIXEL_SRC)/src/group/trellis.rs" ]; then $(MAKE) compare N=100; \
 	else echo 'compare: no cargo, or not the Rust in JIXEL_SRC: left out'; fi
+	@cat target/verdict.txt
 
 quick:
 	rt fmt --check
@@ -142,7 +135,7 @@ compare: library
 	@mkdir -p target
 	@rt check level_search > target/compare.log 2>&1 || { cat target/compare.log >&2; exit 1; }
 	@cargo build --quiet --release --offline --manifest-path compare/Cargo.toml --bin compare --bin leaves --bin tokens --bin groups --bin small
-	@mkdir -p target/sample; compare/target/release/compare --sample target/sample; diff -r target/sample examples -x context-sheet.txt || { echo 'the sample in examples/ is not what compare --sample writes' >&2; exit 1; }
+	@mkdir -p target/sample; compare/target/release/compare --sample target/sample; diff -r target/sample examples -x context-sheet.txt || { echo 'examples/blocks.bin and blocks.txt are not what compare --sample writes' >&2; exit 1; }
 	@compare/target/release/leaves
 	@compare/target/release/tokens --list target/token_list.txt; diff target/token_list.txt bindings/rust/tests/token_list.txt || { echo 'bindings/rust/tests/token_list.txt is not what tokens --list writes' >&2; exit 1; }
 	@compare/target/release/tokens

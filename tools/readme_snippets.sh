@@ -30,4 +30,4 @@ within() {
 same docs/USING.md rust bindings/rust/examples/quick_start.rs
 same docs/USING.md c bindings/c/quick_start.c
 within docs/USING.md rattle "$(< crates/block_search/src/lib.rt)" crates/block_search/src/lib.rt
-within README.md text "$(tools/explain.sh examples/costs.txt examples/blocks.txt)" 'what make run prints'
+within README.md text "$(tools/explain.sh < examples/blocks.txt)" 'what make run prints'

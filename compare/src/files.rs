@@ -5,7 +5,7 @@ use crate::entropy::prefix_code::PrefixCode;
 use crate::judge::{due, Original, Source};
 use crate::plain::{Problem, Rule, RULES};
 use crate::random::Random;
-use crate::{blocks, books, checks, input, made, port, report};
+use crate::{blocks, books, checks, made, port, report};
 
 /// The longest lists and rooms that the program holds: map, configurations, symbol prices, ready prices; a block's lists; choice
 /// bytes and a row.
@@ -20,28 +20,6 @@ fn lines(original: &mut Original, number: usize, book: &Book, block: &Block) -> 
         let due = due(original, search, book, block);
         assert!(due.fault.is_none(), "the Rust and the plain definitions part");
         text += &format!("{number} {search:?} {}{}\n", due.outcome.reply, report::changes(block, &due.outcome.levels));
-    }
-    text
-}
-
-/// The lines that `level_costs` owes for levels as they stand: their cost, their bits and their distortion, the last two by the weights that it takes for them.
-fn cost_lines(number: usize, name: &str, book: &Book, block: &Block) -> String {
-    let of = |channel_weight, lambda| input::due(book, &Block { channel_weight, lambda, ..block.clone() });
-    let bits = match of(1.0 / 1024.0, 1048576.0) {
-        Reply::Cost { bits, count } => Reply::Cost { bits: (f32::from_bits(bits) / 1048576.0).to_bits(), count },
-        other => other,
-    };
-    let levels = if name == "Input" { report::changes(&blocks::empty_block(), &block.levels) } else { String::new() };
-    let distortion = of(block.channel_weight, 1.0 / 1048576.0);
-    format!("{number} {name} {}{levels}\n{number} Bits {bits}\n{number} Distortion {distortion}\n", input::due(book, block))
-}
-
-/// The lines that `level_costs` owes for a block.
-fn lines_with_costs(original: &mut Original, number: usize, book: &Book, block: &Block) -> String {
-    let mut text = cost_lines(number, "Input", book, block);
-    for (line, search) in lines(original, number, book, block).lines().zip(SEARCHES) {
-        let levels = due(original, search, book, block).outcome.levels;
-        text += &format!("{line}\n{}", cost_lines(number, "Levels", book, &Block { levels, ..block.clone() }));
     }
     text
 }
@@ -331,22 +309,16 @@ fn parting(book: &Book) -> Block {
     }
 }
 
-/// Writes the sample of `make run`. In costs.bin a block for which the searches part, in costs.txt the Rust's answers with the plain definitions' costs. In
-/// blocks.bin, with the Rust's answers in blocks.txt, that block with a failed strip, the block as it was, an all-zero block, and one that no symbol can write. One
-/// more block there, and a run without a proof would pass the interpreter's steps.
+/// Writes the sample of `make run`, blocks.bin and the Rust's answers in blocks.txt: a block for which the searches part, the same with a failed strip, the block
+/// again, an all-zero block, and one that no symbol can write.
 pub fn write_sample(folder: &str) {
     let book = one_cluster(|symbol| 0.5 + 0.75 * symbol as f32);
     let good = parting(&book);
-    let (mut first, mut original) = (BlockFile::new(), Original::new());
-    first.book(&book);
-    first.block(&good);
-    original.take(&book);
-    let costs = lines_with_costs(&mut original, 0, &book, &good);
     let mut failed = good.clone();
     failed.source[4..8].fill(f32::NAN);
     let zeros = blocks::empty_block();
     let groups = vec![
-        (book, vec![failed, good, zeros.clone()]),
+        (book, vec![good.clone(), failed, good, zeros.clone()]),
         (one_cluster(|_| f32::INFINITY), vec![zeros]),
     ];
     let (mut file, mut text) = (BlockFile::new(), String::new());
@@ -354,6 +326,4 @@ pub fn write_sample(folder: &str) {
     let path = |name: &str| format!("{folder}/{name}");
     std::fs::write(path("blocks.bin"), file.bytes).expect("the sample is written");
     std::fs::write(path("blocks.txt"), text).expect("its answers are written");
-    std::fs::write(path("costs.bin"), first.bytes).expect("its first block is written");
-    std::fs::write(path("costs.txt"), costs).expect("the costs are written");
 }

@@ -20,7 +20,7 @@ pub fn lent(book: &Book) -> rdoq::Book {
 }
 
 /// No room and no half-width is asked for: greedy's checks, with a half-width that passes.
-pub fn due(book: &Book, block: &Block) -> Reply {
+fn due(book: &Book, block: &Block) -> Reply {
     let block = Block { half_width: HALF_WIDTH, ..block.clone() };
     match refusal(Search::Greedy, book, &block) {
         0 => {

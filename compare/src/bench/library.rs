@@ -16,13 +16,6 @@ extern "C" {
         choices: *mut u8, choices_len: usize, row_a: *mut f32, row_a_len: usize, row_b: *mut f32, row_b_len: usize, cost: *mut f32,
         count: *mut u32,
     ) -> u32;
-    fn rdoq_input_cost(
-        clusters: u32, map: *const u8, map_len: usize, configs: *const u8, configs_len: usize, symbols: *const f32, symbols_len: usize,
-        ready: *const f32, ready_len: usize, cx: u32, cy: u32, strategy: u8, channel: u8, qf_hi: bool, predicted: u8, channel_weight: f32,
-        lambda: f32, penalty: f32, distance: f32, one: f32, numerator: f32, scale: f32, scan: *const u32, scan_len: usize,
-        source: *const f32, source_len: usize, inv_qm: *const f32, inv_qm_len: usize, levels: *const i32, levels_len: usize,
-        cost: *mut f32, count: *mut u32,
-    ) -> u32;
     fn rdoq_small_block(
         search: u32, clusters: u32, map: *const u8, map_len: usize, configs: *const u8, configs_len: usize, symbols: *const f32,
         symbols_len: usize, ready: *const f32, ready_len: usize, cx: u32, cy: u32, strategy: u8, channel: u8, qf_hi: bool, predicted: u8,
@@ -127,20 +120,6 @@ pub fn counted(search: Search, book: &Book, block: &Block, levels: &mut [i32], r
         )
     };
     (code, count)
-}
-
-/// The cost of a block's levels as they stand.
-pub fn input_cost(book: &Book, block: &Block) -> u32 {
-    let (mut cost, mut count) = (0.0f32, 0u32);
-    unsafe {
-        rdoq_input_cost(
-            book.clusters, book.map.as_ptr(), book.map.len(), book.configs.as_ptr(), book.configs.len(), book.symbols.as_ptr(),
-            book.symbols.len(), book.ready.as_ptr(), book.ready.len(), block.cx, block.cy, block.strategy, block.channel,
-            block.quant_class, block.predicted, block.channel_weight, block.lambda, block.penalty, block.distance, block.one,
-            block.numerator, block.scale, block.scan.as_ptr(), block.scan.len(), block.source.as_ptr(), block.source.len(),
-            block.inverse.as_ptr(), block.inverse.len(), block.levels.as_ptr(), block.levels.len(), &mut cost, &mut count,
-        )
-    }
 }
 
 /// The small product's.

@@ -44,14 +44,6 @@ pub struct WidthCosts {
     pub part: f64,
 }
 
-/// What blocks cost as they stand, beside the trellis's search of them, both less checks 1 to 6.
-pub struct InputCosts {
-    pub c: usize,
-    pub density: usize,
-    pub input: f64,
-    pub trellis: f64,
-}
-
 /// The small product beside the first, on the same blocks, both less checks 1 to 6.
 pub struct SmallCosts {
     pub search: Search,
@@ -163,7 +155,6 @@ pub struct Results {
     pub store: Vec<f64>,
     pub tally: TallyCosts,
     pub tokens: Vec<TokenCosts>,
-    pub inputs: Vec<InputCosts>,
     pub small: Vec<SmallCosts>,
     pub groups: Vec<GroupCosts>,
 }
@@ -194,7 +185,6 @@ impl Meter {
             store: self.store(),
             tally: self.tally(),
             tokens: self.tokens(),
-            inputs: self.inputs(),
             small: self.small(),
             groups: self.groups(),
         }
@@ -211,19 +201,6 @@ impl Meter {
                     let [call, checks, rust] = self.by_turns(things);
                     rows.push(SearchCosts { search, c, density, call, checks, rust });
                 }
-            }
-        }
-        rows
-    }
-
-    fn inputs(&mut self) -> Vec<InputCosts> {
-        eprintln!("the input's cost");
-        let mut rows = Vec::new();
-        for density in 0..DENSITIES.len() {
-            for (c, _) in SIZES {
-                let book = Thing::Checks { clusters: SEARCHED, config: 0 };
-                let [input, trellis, checks] = self.by_turns([Thing::Input { c, density }, Thing::Call { search: Search::Trellis, c, density }, book]);
-                rows.push(InputCosts { c, density, input: input - checks, trellis: trellis - checks });
             }
         }
         rows

@@ -3,7 +3,7 @@
 use crate::data::{window, Search};
 use crate::goals::HELD;
 use crate::inputs::{needed, needed_small, CLUSTERS, CONFIGS, DENSITIES, SEARCHED};
-use crate::measure::{Results, SearchCosts, GroupCosts, InputCosts, SmallCosts, TokenCosts, SURPLUS};
+use crate::measure::{Results, SearchCosts, GroupCosts, SmallCosts, TokenCosts, SURPLUS};
 use crate::show::{cells, table, whole, Unit};
 use crate::store::CALLS;
 
@@ -15,7 +15,7 @@ pub fn config(at: usize) -> String {
 /// `rooms` says which side clears.
 pub fn all(results: &Results, unit: Unit, rooms: &str) -> String {
     let searches: String = (0..DENSITIES.len()).map(|density| searches(results, unit, density, rooms)).collect();
-    searches + &books(results, unit) + &blocks(results, unit) + &clearing(results, unit) + &share(results, unit) + &ans(results, unit) + &store(results, unit) + &tally(results, unit) + &tokens(results, unit) + &inputs(results, unit) + &small(results, unit) + &groups(results, unit)
+    searches + &books(results, unit) + &blocks(results, unit) + &clearing(results, unit) + &share(results, unit) + &ans(results, unit) + &store(results, unit) + &tally(results, unit) + &tokens(results, unit) + &small(results, unit) + &groups(results, unit)
 }
 
 fn searches(results: &Results, unit: Unit, density: usize, rooms: &str) -> String {
@@ -158,21 +158,6 @@ fn tokens(results: &Results, unit: Unit) -> String {
     let rows: Vec<_> = results.tokens.iter().map(row).collect();
     let head = cells(&["Levels", "c", "Checks", "Writing", "Reading", "Rust", "Writing / Rust", "Reading / writing"]);
     table("A block's tokens", unit.told(text), &head, &rows)
-}
-
-fn inputs(results: &Results, unit: Unit) -> String {
-    let text = "`rdoq_input_cost`: what a block's levels cost as they stand, beside the trellis's search part on the same blocks; both less checks 1 to 6.";
-    let row = |costs: &InputCosts| {
-        vec![
-            DENSITIES[costs.density].0.to_string(),
-            whole(costs.c as f64),
-            unit.call(costs.input),
-            unit.call(costs.trellis),
-            format!("{:.2}", costs.input / costs.trellis),
-        ]
-    };
-    let rows: Vec<_> = results.inputs.iter().map(row).collect();
-    table("The cost of the input", unit.told(text), &cells(&["Levels", "c", "Cost of the levels", "Trellis, search part", "Ratio"]), &rows)
 }
 
 fn small(results: &Results, unit: Unit) -> String {

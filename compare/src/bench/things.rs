@@ -39,8 +39,6 @@ pub enum Thing {
     Tally { tokens: usize, rust: bool },
     /// The tokens of blocks.
     Tokens { c: usize, density: usize, way: Way },
-    /// What blocks cost as they stand.
-    Input { c: usize, density: usize },
     /// A group's list of a kind.
     Group { way: group_list::Way, kind: usize, search: Search, clusters: usize },
 }
@@ -62,7 +60,6 @@ impl Thing {
             Thing::Tokens { c, density, way } => [10, c, density, way as usize],
             Thing::Small { search, c, density } => [11, search as usize, c, density],
             Thing::Group { way, kind, search, clusters } => [12, 3 * kind + way as usize, search as usize, clusters],
-            Thing::Input { c, density } => [13, c, density, 0],
         }
     }
 
@@ -77,7 +74,6 @@ impl Thing {
             [7, tokens, rust, ..] => Thing::Tally { tokens, rust: rust != 0 },
             [10, c, density, way] => Thing::Tokens { c, density, way: WAYS[way] },
             [12, what, search, clusters] => Thing::Group { way: group_list::WAYS[what % 3], kind: what / 3, search: SEARCHES[search], clusters },
-            [13, c, density, ..] => Thing::Input { c, density },
             [11, search, c, density] => Thing::Small { search: SEARCHES[search], c, density },
             [8, clusters, ..] => Thing::Ans { clusters },
             [9, half_width, c, ..] => Thing::Wide { half_width, c },
@@ -94,7 +90,6 @@ struct Lent {
 
 enum Task {
     Port { small: bool, search: Search, book: Book, lent: Vec<Lent>, room: Room },
-    Input { book: Book, blocks: Vec<Block> },
     Rust { search: Search, prices: FrozenTokenPrices, lent: Vec<Lent>, scratch: Scratch },
     Checks(Book),
     PlainLoop(Book),
@@ -140,7 +135,6 @@ impl Work {
                 let (book, lent) = (inputs::book(SEARCHED, CONFIGS[0]), lend(inputs::blocks(c, density)));
                 once(Task::Port { small: true, search, book, lent, room: Room::of(choices, row) })
             }
-            Thing::Input { c, density } => once(Task::Input { book: inputs::book(SEARCHED, CONFIGS[0]), blocks: inputs::blocks(c, density) }),
             Thing::Original { search, c, density } => {
                 let prices = lent(&inputs::book(SEARCHED, CONFIGS[0]));
                 once(Task::Rust { search, prices, lent: lend(inputs::blocks(c, density)), scratch: Scratch::default() })
@@ -171,7 +165,6 @@ impl Work {
     pub fn calls(&self) -> usize {
         match &self.task {
             Task::Port { lent, .. } | Task::Rust { lent, .. } => self.repeat * lent.len(),
-            Task::Input { blocks, .. } => self.repeat * blocks.len(),
             Task::Checks(_) | Task::PlainLoop(_) => self.repeat,
             Task::Store(store) => store.calls(),
             Task::Tally(_) => self.repeat,
@@ -189,7 +182,7 @@ impl Work {
                     levels.copy_from_slice(&block.levels);
                 }
             }
-            Task::Input { .. } | Task::Checks(_) | Task::PlainLoop(_) | Task::Ans { .. } | Task::Tokens(_) => {}
+            Task::Checks(_) | Task::PlainLoop(_) | Task::Ans { .. } | Task::Tokens(_) => {}
             Task::Store(store) => store.reset(),
             Task::Tally(tally) => tally.reset(),
             Task::Group(group) => group.reset(),
@@ -217,11 +210,6 @@ impl Work {
                     }
                     black_box(lent);
                 }
-                Task::Input { book, blocks } => {
-                    for block in blocks {
-                        reply = library::input_cost(book, black_box(block));
-                    }
-                }
                 Task::Checks(book) => reply = library::check(black_box(book)),
                 Task::PlainLoop(book) => reply = plain_loop(black_box(book)),
                 Task::Store(store) => reply = black_box(store).round(),
@@ -238,9 +226,7 @@ impl Work {
     pub fn levels(&self) -> Vec<&[i32]> {
         match &self.task {
             Task::Port { lent, .. } | Task::Rust { lent, .. } => lent.iter().map(|lent| &lent.levels[..]).collect(),
-            Task::Input { .. } | Task::Checks(_) | Task::PlainLoop(_) | Task::Store(_) | Task::Tally(_) | Task::Tokens(_) | Task::Group(_) | Task::Ans { .. } => {
-                Vec::new()
-            }
+            Task::Checks(_) | Task::PlainLoop(_) | Task::Store(_) | Task::Tally(_) | Task::Tokens(_) | Task::Group(_) | Task::Ans { .. } => Vec::new(),
         }
     }
 
@@ -249,7 +235,7 @@ impl Work {
         match &self.task {
             Task::Port { room, .. } => room.is_clear(),
             Task::Rust { scratch, .. } => scratch.is_clear(),
-            Task::Input { .. } | Task::Checks(_) | Task::PlainLoop(_) | Task::Store(_) | Task::Tally(_) | Task::Tokens(_) | Task::Group(_) | Task::Ans { .. } => false,
+            Task::Checks(_) | Task::PlainLoop(_) | Task::Store(_) | Task::Tally(_) | Task::Tokens(_) | Task::Group(_) | Task::Ans { .. } => false,
         }
     }
 }

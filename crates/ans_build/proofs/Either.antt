@@ -9,7 +9,7 @@ use lib.Ieee.{Float}
 use Rattle.prices.specs.Book.{Book}
 use Rattle.prices.specs.Checks.{all_priced, check1, check2, check3, check4, check5, first_two, first_five, fill_refusal, book_refusal}
 use Rattle.book_build.specs.Prefix.{Prefix, prefix_refusal, prefix_symbols}
-use Rattle.book_build.specs.Fill.{filled_book}
+use Rattle.book_build.specs.Fill.{filled}
 use Rattle.book_build.proofs.Filled.{filled-passes}
 use Rattle.book_build.proofs.Prefixed as Prefixed
 use Rattle.ans_build.specs.Ans.{ans_refusal, ans_symbols}
@@ -24,6 +24,6 @@ priced : (symbols : List Float) → Built symbols → all_priced symbols ≡ tru
 priced symbols (prefix p xs bytes e s) = rw s (Prefixed.built-passes p xs bytes e)
 priced symbols (ans n freqs xs e s) = rw s (built-passes n freqs xs e)
 
-pub either-passes : (b : Book) → Built b.symbols → check1 b ≡ true → check2 b ≡ true → check3 b ≡ true → check4 b ≡ true → book_refusal (filled_book b) ≡ 0
+pub either-passes : (b : Book) → Built b.symbols → check1 b ≡ true → check2 b ≡ true → check3 b ≡ true → check4 b ≡ true → book_refusal (filled b) ≡ 0
 unfolding fill_refusal first_five first_two check5
 either-passes b from one two three four = filled-passes b (rw (one, two, three, four, priced b.symbols from))

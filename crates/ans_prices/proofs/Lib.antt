@@ -1,5 +1,3 @@
 pub mod Prices
-mod Quick
-mod QuickPrice
 mod Tested
 pub mod Whole

@@ -16,7 +16,6 @@ use Rattle.laws.proofs.Table.{every, at}
 use Rattle.ans_log.specs.Log.{dirty_log2, moved, of_parts, series}
 use Rattle.ans_prices.specs.Ans.{ans_price, near, nearest64}
 use Rattle.ans_prices.specs.Table.{PriceTable}
-use Rattle.ans_prices.proofs.QuickPrice.{price_is}
 use Rattle.ans_prices.proofs.Prices.{prices, part0, part1, part2, part3, part4, part5, part6, part7}
 use Rattle.ans_prices.proofs.Tested.{right, right0, right1, right2, right3, right4, right5, right6, right7}
 
@@ -63,7 +62,7 @@ whole = from0
 
 entry : (f : ℕ) → f < 4097 → get_or prices f 0 ≡ to_bits binary32 (ans_price f)
 unfolding prices part0 part1 part2 part3 part4 part5 part6 part7
-entry f h = eqb→eq _ _ (at right prices whole f h) ∙ sym (price_is f)
+entry f h = eqb→eq _ _ (at right prices whole f h)
 
 pub table : PriceTable prices
 table = record { each = entry }

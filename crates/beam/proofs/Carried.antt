@@ -31,29 +31,29 @@ use Rattle.beam.specs.Beam.{end_path, beam_paths}
 use Rattle.beam.proofs.Members.{kept-listed, kept-few, all-merged, all_named, all_ways, reaching-listed, sole_listed, all-extended, extended-length}
 
 -- every local cost is a cost, in the band or not
-pub record UnbandedPriced (q : Position) : Type 0 where
+pub record Priced (q : Position) : Type 0 where
   pub prices : (r p : ℕ) (c : ℤ) → p ≤ 1 → Mem c q.candidates → T (cost (q.price r p c))
 
-pub record AllUnbandedPriced (t : Tail) (qs : List Position) : Type 0 where
+pub record AllPriced (t : Tail) (qs : List Position) : Type 0 where
   pub tails : (p : ℕ) → p ≤ 1 → T (cost (t.cost p))
-  pub each : (q : Position) → Mem q qs → UnbandedPriced q
+  pub each : (q : Position) → Mem q qs → Priced q
 
-pub rest-priced : {t : Tail} {q : Position} {qs : List Position} → AllUnbandedPriced t (q ∷ qs) → AllUnbandedPriced t qs
+pub rest-priced : {t : Tail} {q : Position} {qs : List Position} → AllPriced t (q ∷ qs) → AllPriced t qs
 rest-priced Q = record { tails = Q.tails; each = λ x m. Q.each x (there m) }
 
 -- to show it, position by position
-pub none-priced : {t : Tail} → ((p : ℕ) → p ≤ 1 → T (cost (t.cost p))) → AllUnbandedPriced t []
+pub none-priced : {t : Tail} → ((p : ℕ) → p ≤ 1 → T (cost (t.cost p))) → AllPriced t []
 none-priced h = record { tails = h; each = λ x m. absurd (not-nil m) }
 
-pub more-priced : {t : Tail} {q : Position} {qs : List Position} → UnbandedPriced q → AllUnbandedPriced t qs → AllUnbandedPriced t (q ∷ qs)
+pub more-priced : {t : Tail} {q : Position} {qs : List Position} → Priced q → AllPriced t qs → AllPriced t (q ∷ qs)
 more-priced {t} {q} {qs} h Q = record { tails = Q.tails; each = λ x m. front x (cases_cons m) }
   where
-    front : (x : Position) → (x ≡ q) ⊎ Mem x qs → UnbandedPriced x
-    front x (inl e) = subst⁻¹ UnbandedPriced e h
+    front : (x : Position) → (x ≡ q) ⊎ Mem x qs → Priced x
+    front x (inl e) = subst⁻¹ Priced e h
     front x (inr m) = Q.each x m
 
 -- levels that are a choice of the positions, with this count and this cost
-pub record ChoiceWith (t : Tail) (qs : List Position) (p n : ℕ) (x : Float) (cs : List ℤ) : Type 0 where
+pub record Stands (t : Tail) (qs : List Position) (p n : ℕ) (x : Float) (cs : List ℤ) : Type 0 where
   pub choice : Choice qs cs
   pub count : remaining t.count cs ≡ n
   pub costs : cost_of t qs p cs ≡ x
@@ -62,10 +62,10 @@ pub record Carried (t : Tail) (qs : List Position) (x : Path) : Type 0 where
   pub costs : (p : ℕ) → p ≤ 1 → T (cost (x.cost p))
   pub least : t.count ≤ x.remaining
   pub most : x.remaining ≤ t.count + length qs
-  pub stands : (p : ℕ) → p ≤ 1 → T (finite (x.cost p)) → ChoiceWith t qs p x.remaining (x.cost p) (x.levels p)
+  pub stands : (p : ℕ) → p ≤ 1 → T (finite (x.cost p)) → Stands t qs p x.remaining (x.cost p) (x.levels p)
 
 -- ---- a way, from a path that carries this
-module _ (t : Tail) (q : Position) (qs : List Position) (Q : UnbandedPriced q) where
+module _ (t : Tail) (q : Position) (qs : List Position) (Q : Priced q) where
   pub record Leads (w : Way) : Type 0 where
     pub path : Carried t qs w.path
     pub level : Mem w.level q.candidates
@@ -79,7 +79,7 @@ module _ (t : Tail) (q : Position) (qs : List Position) (Q : UnbandedPriced q) w
   unfolding way_cost
   way-rest w L p P h = (finite-terms binary32 _ _ (Q.prices (way_remaining w) p w.level P L.level) (L.path.costs (nz w.level) (nz-le w.level)) h).1
 
-  pub way-stands : (w : Way) → Leads w → (p : ℕ) → p ≤ 1 → T (finite (way_cost q p w)) → ChoiceWith t (q ∷ qs) p (way_remaining w) (way_cost q p w) (way_levels w)
+  pub way-stands : (w : Way) → Leads w → (p : ℕ) → p ≤ 1 → T (finite (way_cost q p w)) → Stands t (q ∷ qs) p (way_remaining w) (way_cost q p w) (way_levels w)
   unfolding way_levels way_remaining remaining cost_of way_cost
   way-stands w L p P h =
       let s = L.path.stands (nz w.level) (nz-le w.level) (way-rest w L p P h) in
@@ -114,7 +114,7 @@ module _ (t : Tail) (q : Position) (qs : List Position) (Q : UnbandedPriced q) w
     found-way p P h = finite-found (way_cost q p) no_way (reaching n ws) (reached-cost p P) h
 
     merged-stands : (p : ℕ) → p ≤ 1 → T (finite (least (way_cost q p) (inf false) (reaching n ws)))
-        → ChoiceWith t (q ∷ qs) p n (least (way_cost q p) (inf false) (reaching n ws)) (way_levels (holder (way_cost q p) (inf false) no_way (reaching n ws)))
+        → Stands t (q ∷ qs) p n (least (way_cost q p) (inf false) (reaching n ws)) (way_levels (holder (way_cost q p) (inf false) no_way (reaching n ws)))
     merged-stands p P h =
         let f = found-way p P h in
         let k = found-mem (way_cost q p) (inf false) (reaching n ws) _ _ f in
@@ -160,7 +160,7 @@ end-carries : (t : Tail) → ((p : ℕ) → p ≤ 1 → T (cost (t.cost p))) →
 unfolding end_path remaining cost_of
 end-carries t C = record { costs = C; least = le_refl _; most = omega arith; stands = λ p P h. record { choice = done; count = refl; costs = refl } }
 
-pub carried : (t : Tail) (qs : List Position) → AllUnbandedPriced t qs → (x : Path) → Mem x (beam_paths t qs) → Carried t qs x
+pub carried : (t : Tail) (qs : List Position) → AllPriced t qs → (x : Path) → Mem x (beam_paths t qs) → Carried t qs x
 unfolding beam_paths
 carried t [] Q x m = subst⁻¹ (Carried t []) (only m) (end-carries t Q.tails)
 carried t (q ∷ qs) Q x m = stepped-carries t q qs (Q.each q (here refl)) (beam_paths t qs) (carried t qs (rest-priced Q)) x m

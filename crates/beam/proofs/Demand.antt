@@ -26,36 +26,36 @@ use Rattle.problem.proofs.Refusals.{NoOutcome, search-number, searched, width-fr
 use Rattle.problem.proofs.Written.{put-window, put-choice}
 use Rattle.scan.specs.Scan.{put}
 use Rattle.weights.specs.declared.Window.{Window}
-use Rattle.beam.specs.Beam.{path_total, paths_of, beam_cost, beam_count, beam_levels, beam_problem, answered, written, refusal, Outcome, outcome_of, searched_outcome, beam_outcome}
+use Rattle.beam.specs.Beam.{path_total, paths_of, beam_cost, beam_count, beam_levels, problem, answered, written, refusal, Outcome, outcome_of, searched_outcome, beam_outcome}
 use Rattle.block.specs.Outcome.{RefusedKeeps}
 use Rattle.beam.specs.Demand.{RefusedExactly, KeptCost, KeptAnswered, PromisedIn}
 use Rattle.beam.proofs.Priced.{levels-choice, levels-count, levels-cost, least_kept, each-infinite, least-infinite}
 
 -- the levels with those of the path found written through the scan
 abbrev found-levels : Window → Book → Block → List ℤ
-found-levels v book b = put b.scan (beam_levels (beam_problem v book b)) (covered b) v.length b.levels
+found-levels v book b = put b.scan (beam_levels (problem v book b)) (covered b) v.length b.levels
 
 module _ (v : Window) (book : Book) (b : Block) (ok : book_refusal book ≡ 0) (P : Passed v b) where
-  module _ (h : T (finite (beam_cost (beam_problem v book b)))) where
-    chosen : Choice (positions_from half_width v book b 0 v.length) (beam_levels (beam_problem v book b))
+  module _ (h : T (finite (beam_cost (problem v book b)))) where
+    chosen : Choice (positions_from half_width v book b 0 v.length) (beam_levels (problem v book b))
     unfolding problem_of
     chosen = levels-choice v book ok b P h
 
-    read : window_levels v b (found-levels v book b) ≡ beam_levels (beam_problem v book b)
-    read = put-window half_width v book b P (beam_levels (beam_problem v book b)) chosen
+    read : window_levels v b (found-levels v book b) ≡ beam_levels (problem v book b)
+    read = put-window half_width v book b P (beam_levels (problem v book b)) chosen
 
     is-choice : IsChoice half_width v book b (found-levels v book b)
-    is-choice = put-choice half_width v book b P (beam_levels (beam_problem v book b)) chosen
+    is-choice = put-choice half_width v book b P (beam_levels (problem v book b)) chosen
 
-    counted : beam_count (beam_problem v book b) ≡ input_remaining (with_levels b (found-levels v book b)) (covered b)
+    counted : beam_count (problem v book b) ≡ input_remaining (with_levels b (found-levels v book b)) (covered b)
     unfolding count_of problem_of tail_of
     counted = sym (levels-count v book ok b P h) ∙ ap (remaining (past_window v b)) (sym read) ∙ is-choice.count
 
-    meets : KeptCost v book b (found-levels v book b) (beam_cost (beam_problem v book b)) (beam_count (beam_problem v book b))
+    meets : KeptCost v book b (found-levels v book b) (beam_cost (problem v book b)) (beam_count (problem v book b))
     meets =
         record {
           choice = is-choice;
-          cost_is = sym (levels-cost v book ok b P h) ∙ ap (whole_cost (beam_problem v book b)) (sym read);
+          cost_is = sym (levels-cost v book ok b P h) ∙ ap (whole_cost (problem v book b)) (sym read);
           count_is = counted;
           is_finite = h;
           least = least_kept v book ok b P;
@@ -64,32 +64,32 @@ module _ (v : Window) (book : Book) (b : Block) (ok : book_refusal book ≡ 0) (
 
   answered-kept : KeptAnswered v book b (written v book b) (answered v book b)
   unfolding answered written
-  answered-kept x n e = go (finite (beam_cost (beam_problem v book b))) _ refl e
+  answered-kept x n e = go (finite (beam_cost (problem v book b))) _ refl e
     where
-      go : (t : Bool) (after : List ℤ) → finite (beam_cost (beam_problem v book b)) ≡ t → cond t (Cost (beam_cost (beam_problem v book b)) (beam_count (beam_problem v book b))) (Refused 16) ≡ Cost x n
+      go : (t : Bool) (after : List ℤ) → finite (beam_cost (problem v book b)) ≡ t → cond t (Cost (beam_cost (problem v book b)) (beam_count (problem v book b))) (Refused 16) ≡ Cost x n
           → KeptCost v book b (cond t (found-levels v book b) after) x n
       go true after h k =
-          let cost : beam_cost (beam_problem v book b) ≡ x = cc in
-          let count : beam_count (beam_problem v book b) ≡ n = cc in
+          let cost : beam_cost (problem v book b) ≡ x = cc in
+          let count : beam_count (problem v book b) ≡ n = cc in
           subst (λ (c : Float). KeptCost v book b (found-levels v book b) c n) cost
-          (subst (KeptCost v book b (found-levels v book b) (beam_cost (beam_problem v book b))) count (meets (rw h tt)))
+          (subst (KeptCost v book b (found-levels v book b) (beam_cost (problem v book b))) count (meets (rw h tt)))
       go false after h k =
           let bad : ◌≡◌ {A = ℕ} 0 1 = cc in
           absurd (omega arith)
 
   -- 16 is answered exactly where each path that is kept ended at an infinite cost
-  refused-only : answered v book b ≡ Refused 16 → (x : Path) → Mem x (paths_of (beam_problem v book b)) → path_total (beam_problem v book b) x ≡ inf false
+  refused-only : answered v book b ≡ Refused 16 → (x : Path) → Mem x (paths_of (problem v book b)) → path_total (problem v book b) x ≡ inf false
   unfolding answered
-  refused-only e = go (finite (beam_cost (beam_problem v book b))) refl e
+  refused-only e = go (finite (beam_cost (problem v book b))) refl e
     where
-      go : (t : Bool) → finite (beam_cost (beam_problem v book b)) ≡ t → cond t (Cost (beam_cost (beam_problem v book b)) (beam_count (beam_problem v book b))) (Refused 16) ≡ Refused 16
-          → (x : Path) → Mem x (paths_of (beam_problem v book b)) → path_total (beam_problem v book b) x ≡ inf false
+      go : (t : Bool) → finite (beam_cost (problem v book b)) ≡ t → cond t (Cost (beam_cost (problem v book b)) (beam_count (problem v book b))) (Refused 16) ≡ Refused 16
+          → (x : Path) → Mem x (paths_of (problem v book b)) → path_total (problem v book b) x ≡ inf false
       go true h k =
           let bad : ◌≡◌ {A = ℕ} 0 1 = cc in
           absurd (omega arith)
       go false h k = each-infinite v book ok b P h
 
-  refused-where : ((x : Path) → Mem x (paths_of (beam_problem v book b)) → path_total (beam_problem v book b) x ≡ inf false) → answered v book b ≡ Refused 16
+  refused-where : ((x : Path) → Mem x (paths_of (problem v book b)) → path_total (problem v book b) x ≡ inf false) → answered v book b ≡ Refused 16
   unfolding answered
   refused-where f = rw (least-infinite v book ok b P f)
 
@@ -126,7 +126,7 @@ module _ (w : ℕ) (v : Window) (book : Book) (b : Block) (within : block_refusa
   refused-16 = (λ e. only (eqb (refusal w v book b choices) 0) refl e, λ h. rw (eq-eqb (refusal w v book b choices) 0 h.0) (refused-where v book b (passed-all h.0).0 (passed-all h.0).1 h.1))
     where
       only : (t : Bool) → eqb (refusal w v book b choices) 0 ≡ t → cond t (answered v book b) (Refused (refusal w v book b choices)) ≡ Refused 16
-          → (refusal w v book b choices ≡ 0) × ((x : Path) → Mem x (paths_of (beam_problem v book b)) → path_total (beam_problem v book b) x ≡ inf false)
+          → (refusal w v book b choices ≡ 0) × ((x : Path) → Mem x (paths_of (problem v book b)) → path_total (problem v book b) x ≡ inf false)
       only true h e =
           let z = eqb-true (refusal w v book b choices) 0 h in
           (z, refused-only v book b (passed-all z).0 (passed-all z).1 e)
@@ -148,9 +148,9 @@ module _ (w : ℕ) (v : Window) (book : Book) (b : Block) (within : block_refusa
   -- after 16 too
   answered-keeps : (n : ℕ) → answered v book b ≡ Refused n → written v book b ≡ b.levels
   unfolding written answered
-  answered-keeps n e = go (finite (beam_cost (beam_problem v book b))) e
+  answered-keeps n e = go (finite (beam_cost (problem v book b))) e
     where
-      go : (t : Bool) → cond t (Cost (beam_cost (beam_problem v book b)) (beam_count (beam_problem v book b))) (Refused 16) ≡ Refused n → cond t (found-levels v book b) b.levels ≡ b.levels
+      go : (t : Bool) → cond t (Cost (beam_cost (problem v book b)) (beam_count (problem v book b))) (Refused 16) ≡ Refused n → cond t (found-levels v book b) b.levels ≡ b.levels
       go true k =
           let bad : ◌≡◌ {A = ℕ} 0 1 = cc in
           absurd (omega arith)

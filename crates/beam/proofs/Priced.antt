@@ -33,9 +33,9 @@ use Rattle.problem.specs.Tokens.{past_length}
 use Rattle.search_checks.specs.Checked.{positions}
 use Rattle.search_checks.proofs.Checked.{first_bit}
 use Rattle.weights.specs.declared.Window.{Window}
-use Rattle.beam.specs.Beam.{beam_paths, path_total, paths_of, beam_cost, beam_path, beam_count, beam_levels, beam_problem}
+use Rattle.beam.specs.Beam.{beam_paths, path_total, paths_of, beam_cost, beam_path, beam_count, beam_levels, problem}
 use Rattle.beam.specs.Held.{paths, path_at}
-use Rattle.beam.proofs.Carried.{UnbandedPriced, AllUnbandedPriced, none-priced, more-priced, Carried, ChoiceWith, carried}
+use Rattle.beam.proofs.Carried.{Priced, AllPriced, none-priced, more-priced, Carried, Stands, carried}
 
 -- an element of a list stands in it
 pub at_listed : {A : Type 0} (xs : List A) (d : A) (j : ℕ) → j < length xs → Mem (get_or xs j d) xs
@@ -44,14 +44,14 @@ at_listed (x ∷ xs) d zero h = here refl
 at_listed (x ∷ xs) d (suc j) h = there (at_listed xs d j (le_of_suc-le-suc h))
 
 -- the paths of the whole window
-pub all-paths : (v : Window) (book : Book) (b : Block) → paths v book b 0 ≡ paths_of (beam_problem v book b)
+pub all-paths : (v : Window) (book : Book) (b : Block) → paths v book b 0 ≡ paths_of (problem v book b)
 unfolding problem_of
 all-paths v book b =
     let all : v.length - 0 ≡ v.length = omega arith in
     ap (λ (n : ℕ). beam_paths (tail_of v book b) (positions_from half_width v book b 0 n)) all
 
 module _ (v : Window) (book : Book) (ok : book_refusal book ≡ 0) (b : Block) (P : Passed v b) where
-  pub local-cost : (i : ℕ) → i < v.length → UnbandedPriced (position_at half_width v book b i)
+  pub local-cost : (i : ℕ) → i < v.length → Priced (position_at half_width v book b i)
   unfolding position_at
   local-cost i h = record { prices = λ r q c Q m. capped-cost binary32 1 194 _ (local-capped book ok v b P i h c (candidates-level book ok v b P i h c m) r q) }
 
@@ -59,7 +59,7 @@ module _ (v : Window) (book : Book) (ok : book_refusal book ≡ 0) (b : Block) (
   unfolding tail_of
   tail-costs q Q = capped-cost binary32 _ 194 _ (tail-capped book ok v b P q)
 
-  all-priced : (n i : ℕ) → i + n ≤ v.length → AllUnbandedPriced (tail_of v book b) (positions_from half_width v book b i n)
+  all-priced : (n i : ℕ) → i + n ≤ v.length → AllPriced (tail_of v book b) (positions_from half_width v book b i n)
   unfolding positions_from
   all-priced zero i h = none-priced tail-costs
   all-priced (suc n) i h = more-priced (local-cost i (omega arith)) (all-priced n (suc i) (omega arith))
@@ -81,7 +81,7 @@ module _ (v : Window) (book : Book) (ok : book_refusal book ≡ 0) (b : Block) (
 
   -- ---- the paths of the whole window
   abbrev whole : Problem
-  whole = beam_problem v book b
+  whole = problem v book b
 
   whole-carried : (x : Path) → Mem x (paths_of whole) → Carried whole.tail whole.positions x
   unfolding problem_of
@@ -125,7 +125,7 @@ module _ (v : Window) (book : Book) (ok : book_refusal book ≡ 0) (b : Block) (
         (finite-terms binary32 _ _ ((whole-carried _ listed).costs (first_prev b (beam_path whole).remaining) (first_bit b (beam_path whole).remaining)) (count-cost _ listed)
         (subst (λ (x : Float). T (finite x)) found.value h)).0
 
-    stands : ChoiceWith whole.tail whole.positions (first_prev b (beam_path whole).remaining) (beam_path whole).remaining ((beam_path whole).cost (first_prev b (beam_path whole).remaining)) ((beam_path whole).levels (first_prev b (beam_path whole).remaining))
+    stands : Stands whole.tail whole.positions (first_prev b (beam_path whole).remaining) (beam_path whole).remaining ((beam_path whole).cost (first_prev b (beam_path whole).remaining)) ((beam_path whole).levels (first_prev b (beam_path whole).remaining))
     stands = (whole-carried _ listed).stands (first_prev b (beam_path whole).remaining) (first_bit b (beam_path whole).remaining) path-finite
 
     -- the levels found are a choice, and the count and the cost found are theirs

@@ -12,7 +12,7 @@ use Rattle.beam_paths.specs.Held.{PathsFor, Named}
 use Rattle.beam_paths.specs.Step.{stepped}
 use Rattle.beam_paths.specs.declared.Paths.{Paths}
 use Rattle.beam_paths.specs.declared.Step.{Step}
-use Rattle.beam_row.specs.Held.{Spot, spot_of, PositionFor, Takeable, Taken}
+use Rattle.beam_row.specs.Held.{Spot, spot_of, Stands, Takeable, Taken}
 use Rattle.block.specs.Block.{Block, covered, input_at, ideal, candidates_at}
 use Rattle.block.specs.Band.{position_at, tail_of, half_width}
 use Rattle.block_checks.specs.Passed.{Passed}
@@ -28,7 +28,7 @@ use Rattle.steps.proofs.Local.{local-is}
 use Rattle.weights.specs.declared.Window.{Window}
 use Rattle.beam.specs.Beam.{beam_paths}
 use Rattle.beam.specs.Held.{paths, path_at, Stored, Stepped}
-use Rattle.beam.proofs.Carried.{UnbandedPriced, Carried}
+use Rattle.beam.proofs.Carried.{Priced, Carried}
 use Rattle.beam.proofs.Priced.{local-cost, carried-at, count_fits}
 
 -- what stands at window position i of a block
@@ -52,11 +52,11 @@ module _ {book : Book} {b : Block} {p : Plan} (K : Checked book b p) where
     unfolding beam_paths
     paths-step = ap (beam_paths (tail_of p.window book b)) (positions-cons K half_width i h)
 
-    pub here-priced : UnbandedPriced (position_at half_width p.window book b i)
+    pub here-priced : Priced (position_at half_width p.window book b i)
     here-priced = local-cost p.window book K.book_passed b P i h
 
     module _ {spot : Spot} (S : Spotted p.window b p.log2 i spot) where
-      pub stands_here : PositionFor book spot (position_at half_width p.window book b i)
+      pub stands_here : Stands book spot (position_at half_width p.window book b i)
       unfolding position_at
       stands_here =
           record {

@@ -22,9 +22,9 @@ use Rattle.prices.specs.Book.{Book}
 use Rattle.scan.specs.Scan.{put}
 use Rattle.search_checks.specs.Checked.{Searched}
 use Rattle.steps.specs.declared.reading.Plan.{Plan}
-use Rattle.beam.specs.Beam.{beam_cost, beam_count, beam_levels, beam_problem, answered, written}
+use Rattle.beam.specs.Beam.{beam_cost, beam_count, beam_levels, problem, answered, written}
 use Rattle.beam.specs.Held.{paths, levels_of, Reached, Countable, Ended, Walkable, Done}
-use Rattle.search_checks.specs.declared.best.Best.{Best}
+use Rattle.beam.specs.declared.ending.Best.{Best}
 use Rattle.beam.proofs.Priced.{beam-cost, path-finite}
 use Rattle.beam.proofs.Taking.{fits-of}
 
@@ -60,30 +60,30 @@ module _ {book : Book} {scan : List ℕ} {source inverse : List Float} {levels :
 -- ---- what is written, and answered
 module _ {scan : List ℕ} {source inverse : List Float} {levels : List ℤ} {plan : Plan} {choices : List ℕ} {s : Paths} {best : Best} (d : Done scan source inverse levels plan choices s best) where
   -- the test for a finite cost
-  pub tested : {y : Float} {q : Bool} → y ≡ inf false → lt best.cost y ≡ q → finite (beam_cost (beam_problem plan.window d.book d.searched.block)) ≡ q
+  pub tested : {y : Float} {q : Bool} → y ≡ inf false → lt best.cost y ≡ q → finite (beam_cost (problem plan.window d.book d.searched.block)) ≡ q
   tested {y} e t =
-      sym (lt-inf (beam_cost (beam_problem plan.window d.book d.searched.block)) (beam-cost plan.window d.book d.searched.checked.book_passed d.searched.block d.searched.checked.passed))
+      sym (lt-inf (beam_cost (problem plan.window d.book d.searched.block)) (beam-cost plan.window d.book d.searched.checked.book_passed d.searched.block d.searched.checked.passed))
       ∙ ap₂ lt (sym d.ended.cost_is) (sym e)
       ∙ t
 
-  module _ (h : finite (beam_cost (beam_problem plan.window d.book d.searched.block)) ≡ true) where
-    holds : T (finite (beam_cost (beam_problem plan.window d.book d.searched.block)))
+  module _ (h : finite (beam_cost (problem plan.window d.book d.searched.block)) ≡ true) where
+    holds : T (finite (beam_cost (problem plan.window d.book d.searched.block)))
     holds = rw h tt
 
-    pub inside : best.holder < length (paths plan.window d.book d.searched.block 0)
+    pub inside : best.path < length (paths plan.window d.book d.searched.block 0)
     inside = d.ended.inside (rw d.ended.cost_is holds)
 
-    pub path-few : best.holder < s.count
+    pub path-few : best.path < s.count
     path-few = omega (arith, inside, d.reached.paths_are.count_is)
 
-    pub count_is : {n : ℕ} → n ≡ get_or s.remaining best.holder 0 → n ≡ beam_count (beam_problem plan.window d.book d.searched.block)
+    pub count_is : {n : ℕ} → n ≡ get_or s.remaining best.path 0 → n ≡ beam_count (problem plan.window d.book d.searched.block)
     unfolding beam_count
-    count_is e = e ∙ d.reached.paths_are.remaining_is best.holder inside ∙ ap (λ (x : Path). x.remaining) d.ended.path_is
+    count_is e = e ∙ d.reached.paths_are.remaining_is best.path inside ∙ ap (λ (x : Path). x.remaining) d.ended.path_is
 
-    pub count-few : {n : ℕ} → n ≡ get_or s.remaining best.holder 0 → n ≤ 65536
-    count-few e = omega (arith, d.reached.paths_are.remaining_is best.holder inside, fits-of d.searched.checked 0 best.holder zero-le inside, d.searched.checked.passed.most)
+    pub count-few : {n : ℕ} → n ≡ get_or s.remaining best.path 0 → n ≤ 65536
+    count-few e = omega (arith, d.reached.paths_are.remaining_is best.path inside, fits-of d.searched.checked 0 best.path zero-le inside, d.searched.checked.passed.most)
 
-    pub walkable : {n : ℕ} → n ≡ get_or s.remaining best.holder 0 → Walkable scan source inverse levels plan choices best.holder n
+    pub walkable : {n : ℕ} → n ≡ get_or s.remaining best.path 0 → Walkable scan source inverse levels plan choices best.path n
     unfolding beam_count
     walkable {n} e =
         record {
@@ -95,22 +95,22 @@ module _ {scan : List ℕ} {source inverse : List Float} {levels : List ℤ} {pl
           cheap = rw (count_is e, d.ended.path_is) (path-finite plan.window d.book d.searched.checked.book_passed d.searched.block d.searched.checked.passed holds);
         }
 
-    pub levels-written : {n : ℕ} (e : n ≡ get_or s.remaining best.holder 0) {after : List ℤ}
-        → ((w : Walkable scan source inverse levels plan choices best.holder n) → after ≡ put scan (levels_of plan.window w.book w.searched.block best.holder n) (covered w.searched.block) plan.window.length levels)
+    pub levels-written : {n : ℕ} (e : n ≡ get_or s.remaining best.path 0) {after : List ℤ}
+        → ((w : Walkable scan source inverse levels plan choices best.path n) → after ≡ put scan (levels_of plan.window w.book w.searched.block best.path n) (covered w.searched.block) plan.window.length levels)
         → after ≡ written plan.window d.book d.searched.block
     unfolding written walkable beam_levels problem_of
     levels-written {n} e f =
         rw h
         (f (walkable e)
-        ∙ ap₂ (λ (t : List ℕ) (l : List ℤ). put t (levels_of plan.window d.book d.searched.block best.holder n) (covered d.searched.block) plan.window.length l) d.searched.lists.scan_is d.searched.lists.levels_is
+        ∙ ap₂ (λ (t : List ℕ) (l : List ℤ). put t (levels_of plan.window d.book d.searched.block best.path n) (covered d.searched.block) plan.window.length l) d.searched.lists.scan_is d.searched.lists.levels_is
         ∙ ap (λ (z : List ℤ). put d.searched.block.scan z (covered d.searched.block) plan.window.length d.searched.block.levels)
         (ap₂ (λ (x : Path) (k : ℕ). x.levels (first_prev d.searched.block k)) d.ended.path_is (count_is e)))
 
-    pub cost-answered : {n : ℕ} → n ≡ get_or s.remaining best.holder 0 → Cost best.cost n ≡ answered plan.window d.book d.searched.block
+    pub cost-answered : {n : ℕ} → n ≡ get_or s.remaining best.path 0 → Cost best.cost n ≡ answered plan.window d.book d.searched.block
     unfolding answered
     cost-answered e = rw h (ap₂ Cost d.ended.cost_is (count_is e))
 
-  module _ (h : finite (beam_cost (beam_problem plan.window d.book d.searched.block)) ≡ false) where
+  module _ (h : finite (beam_cost (problem plan.window d.book d.searched.block)) ≡ false) where
     pub levels-kept : levels ≡ written plan.window d.book d.searched.block
     unfolding written
     levels-kept = rw h d.searched.lists.levels_is

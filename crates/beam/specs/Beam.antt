@@ -49,19 +49,19 @@ beam_levels w = (beam_path w).levels (w.first_prev (beam_count w))
 -- ---- The search of a block
 -- The block's search problem, with a window v. Its band plays no part in the beam, which reads of a position the candidates and the local costs alone: any half-width gives the
 -- same.
-abbrev pub beam_problem : Window → Book → Block → Problem
-beam_problem v book b = problem_of half_width v book b
+abbrev pub problem : Window → Book → Block → Problem
+problem v book b = problem_of half_width v book b
 
 -- the cost and the count found, or 16 where no path's cost is finite
 unfoldable pub answered : Window → Book → Block → Answer
 answered v book b =
-    let p = beam_problem v book b in
+    let p = problem v book b in
     cond (finite (beam_cost p)) (Cost (beam_cost p) (beam_count p)) (Refused 16)
 
 -- the levels found, each at its place; after 16 the block is as it was
 unfoldable pub written : Window → Book → Block → List ℤ
 written v book b =
-    let p = beam_problem v book b in
+    let p = problem v book b in
     cond (finite (beam_cost p)) (put b.scan (beam_levels p) (covered b) v.length b.levels) b.levels
 
 -- ---- What the call answers, and what the lent buffers hold afterwards

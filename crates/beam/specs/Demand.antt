@@ -16,25 +16,25 @@ use Rattle.least_cost.specs.Search.{whole_cost}
 use Rattle.prices.specs.Book.{Book}
 use Rattle.weights.specs.Window.{window_of}
 use Rattle.weights.specs.declared.Window.{Window}
-use Rattle.beam.specs.Beam.{Outcome, path_total, paths_of, beam_levels, beam_problem, refusal, beam_outcome}
+use Rattle.beam.specs.Beam.{Outcome, path_total, paths_of, beam_levels, problem, refusal, beam_outcome}
 
 -- Refused with 16 exactly when no check refuses and the kept paths all ended at an infinite cost.
 abbrev pub RefusedExactly : ℕ → Window → Book → Block → List ℕ → Answer → Type 0
 RefusedExactly w v book b choices answer =
     (answer ≡ Refused 16)
-    ↔ ((refusal w v book b choices ≡ 0) × ((x : Path) → Memᴰ x (paths_of (beam_problem v book b)) → path_total (beam_problem v book b) x ≡ inf false))
+    ↔ ((refusal w v book b choices ≡ 0) × ((x : Path) → Memᴰ x (paths_of (problem v book b)) → path_total (problem v book b) x ≡ inf false))
 
 -- What an answered cost and count say of the levels written.
 pub record KeptCost (v : Window) (book : Book) (b : Block) (written : List ℤ) (cost : Float) (count : ℕ) : Type 0 where
   -- they are a choice: candidates in the window, the input's levels elsewhere
   pub choice : IsChoice half_width v book b written
   -- the cost and the count are theirs
-  pub cost_is : cost ≡ whole_cost (beam_problem v book b) (window_levels v b written)
+  pub cost_is : cost ≡ whole_cost (problem v book b) (window_levels v b written)
   pub count_is : count ≡ input_remaining (with_levels b written) (covered b)
   pub is_finite : T (finite cost)
   -- no path that was kept costs less; the first of the cheapest was taken
-  pub least : (x : Path) → Memᴰ x (paths_of (beam_problem v book b)) → T (le cost (path_total (beam_problem v book b) x))
-  pub first_met : window_levels v b written ≡ beam_levels (beam_problem v book b)
+  pub least : (x : Path) → Memᴰ x (paths_of (problem v book b)) → T (le cost (path_total (problem v book b) x))
+  pub first_met : window_levels v b written ≡ beam_levels (problem v book b)
 
 abbrev pub KeptAnswered : Window → Book → Block → List ℤ → Answer → Type 0
 KeptAnswered v book b written answer = (cost : Float) (count : ℕ) → answer ≡ Cost cost count → KeptCost v book b written cost count

@@ -5,13 +5,30 @@ ghost use Rattle.beam_paths.specs.Path.{Path};
 ghost use Rattle.block.specs.Block.{Block};
 ghost use Rattle.prices.specs.Book.{book_in};
 ghost use Rattle.steps.specs.Plan.{Planned};
-ghost use Rattle.beam.specs.Beam.{path_total, beam_problem};
-ghost use Rattle.beam.specs.Held.{paths, Countable, Ended};
+ghost use Rattle.beam.specs.Beam.{path_total, problem};
+ghost use Rattle.beam.specs.Held.{paths, considered, Countable, Ended};
 
 use beam_paths::Paths;
-use search_checks::best::Best;
 use steps::reading::Plan;
 use steps::tokens;
+
+// The least cost, and the path that has it.
+#[derive(Drop)]
+pub struct Best {
+    pub cost: f32,
+    pub path: usize,
+}
+
+impl Best {
+    fn consider(self, cost: f32, path: usize) -> Best
+        ensures { result ≡ considered self cost path }
+    {
+        if cost < self.cost {
+            return Best { cost, path };
+        }
+        self
+    }
+}
 
 // The whole cost of path `j`.
 fn total_of(
@@ -26,7 +43,7 @@ fn total_of(
     requires countable { Countable (book_in map.now configs.now symbols.now ready.now) plan kept }
     requires j_lt_count { j < kept.count }
     ensures { (b : Block) (xs : List Path) → Planned b plan → PathsFor xs kept
-        → result ≡ path_total (beam_problem plan.window (book_in map.now configs.now symbols.now ready.now) b) (get_or xs j no_path) }
+        → result ≡ path_total (problem plan.window (book_in map.now configs.now symbols.now ready.now) b) (get_or xs j no_path) }
 {
     let count = kept.remaining[j];
     let prev = tokens::first_prev(plan.covered, count);
@@ -46,7 +63,10 @@ pub(crate) fn best_path(
         → Ended plan.window (book_in map.now configs.now symbols.now ready.now) b result }
 {
     // No path stands at 3: where none is cheaper than +infinity, none is found.
-    let mut best = Best::none(3);
+    let mut best = Best {
+        cost: costs::infinity(),
+        path: 3,
+    };
     for j in 0..kept.count {
         let cost = total_of(map, configs, symbols, ready, plan, kept, j);
         best = best.consider(cost, j);

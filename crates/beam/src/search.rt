@@ -9,10 +9,10 @@ ghost use Rattle.weights.specs.declared.Window.{Window};
 ghost use Rattle.beam.specs.Beam.{answered, written};
 ghost use Rattle.beam.specs.Held.{paths, Done};
 
+use crate::ending::Best;
 use crate::{ending, positions, walk};
 use beam_paths::Paths;
 use block::Answer;
-use search_checks::best::Best;
 use search_checks::start;
 use search_checks::start::Start;
 use steps::reading::Plan;
@@ -45,7 +45,7 @@ fn write_found(
     ensures { (d : Done scan.now source.now inv_qm.now levels.old plan choices.now kept best) → (result ≡ answered plan.window d.book d.searched.block) × (levels.new ≡ written plan.window d.book d.searched.block) }
 {
     if best.cost < costs::infinity() {
-        let path = best.holder;
+        let path = best.path;
         let count = kept.remaining[path];
         walk::write_levels(scan, source, inv_qm, levels, plan, choices, path, count);
         return Answer::Cost {

@@ -27,7 +27,7 @@ use Rattle.beam_paths.specs.Held.{no_path, PathsFor}
 use Rattle.beam_paths.specs.Entries.{named}
 use Rattle.beam_paths.specs.declared.Paths.{Paths}
 use Rattle.beam_paths.specs.declared.counts.Counts.{Counts}
-use Rattle.beam_row.specs.Held.{Spot, PositionFor, Takeable}
+use Rattle.beam_row.specs.Held.{Spot, Stands, Takeable}
 use Rattle.beam_paths.proofs.Naming.{counts-none, counts-cons}
 use Rattle.beam_paths.proofs.Keeping.{extended_none, extended-cons}
 
@@ -175,11 +175,11 @@ counts-coded {book} {s} {paths} c {d} K names few h =
 abbrev pub position_of : Book → Spot → Position
 position_of book s = record { candidates = listed s.candidates; low = 0; high = 0; price = λ r p c. local_at book s.place r p c }
 
-pub position-stands : (book : Book) (s : Spot) → PositionFor book s (position_of book s)
+pub position-stands : (book : Book) (s : Spot) → Stands book s (position_of book s)
 position-stands book s = record { candidates_are = refl; price_is = λ r p c h m. refl }
 
 pub counts-next-upto : {book : Book} {s : Spot} {paths after : Paths} → paths.count ≤ 3 → length paths.remaining ≡ 3 → length paths.costs ≡ 6
-    → ((q : Position) (xs : List Path) → PositionFor book s q → PathsFor xs paths → PathsFor (stepped q xs) after)
+    → ((q : Position) (xs : List Path) → Stands book s q → PathsFor xs paths → PathsFor (stepped q xs) after)
     → (most : ℕ) → ((j : ℕ) → j < paths.count → get_or paths.remaining j 0 ≤ most) → (j : ℕ) → j < after.count → get_or after.remaining j 0 ≤ suc most
 counts-next-upto {book} {s} {paths} {after} few three six all most h j r =
     let ys = all (position_of book s) (paths_of paths) (position-stands book s) (paths-for paths few three six) in

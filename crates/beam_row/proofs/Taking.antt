@@ -14,7 +14,7 @@ use Rattle.beam_paths.specs.Entries.{KeptIs}
 use Rattle.beam_paths.specs.declared.Paths.{Paths}
 use Rattle.beam_paths.specs.declared.Step.{Step}
 use Rattle.beam_paths.specs.declared.kept.Kept.{Kept}
-use Rattle.beam_row.specs.Held.{Spot, PositionFor, Takeable, Taken}
+use Rattle.beam_row.specs.Held.{Spot, Stands, Takeable, Taken}
 use Rattle.beam_row.proofs.Trying.{candidates-length}
 use Rattle.beam_row.proofs.Growing.{counts-next-upto}
 
@@ -31,19 +31,19 @@ few-paths W = rw W.count_is W.few
 
 module _ {book : Book} {s : Spot} {paths : Paths} {k : Kept} {r : Step} (K : Takeable book s paths)
     (closed : (q : Position) (xs ys : List Path) → length xs ≤ 3 → KeptIs q xs ys k → (PathsFor ys r.paths) × Remembered q xs ys r.choices) where
-  taken : ((q : Position) (xs : List Path) → PositionFor book s q → PathsFor xs paths → KeptIs q xs (stepped q xs) k) → Taken book s paths r
+  taken : ((q : Position) (xs : List Path) → Stands book s q → PathsFor xs paths → KeptIs q xs (stepped q xs) k) → Taken book s paths r
   taken is =
-      let stands : (q : Position) (xs : List Path) → PositionFor book s q → PathsFor xs paths → PathsFor (stepped q xs) r.paths = λ q xs S W. (closed q xs (stepped q xs) (few-paths W) (is q xs S W)).0 in
+      let stands : (q : Position) (xs : List Path) → Stands book s q → PathsFor xs paths → PathsFor (stepped q xs) r.paths = λ q xs S W. (closed q xs (stepped q xs) (few-paths W) (is q xs S W)).0 in
       record {
         stands = stands;
         remembered = λ q xs S W. (closed q xs (stepped q xs) (few-paths W) (is q xs S W)).1;
         upto = counts-next-upto K.few K.three K.six stands;
       }
 
-  pub taken-sole : s.candidates.count ≡ 1 → ((q : Position) (xs : List Path) → PositionFor book s q → PathsFor xs paths → KeptIs q xs (extended q (get_or q.candidates 0 (pos 0)) xs) k) → Taken book s paths r
+  pub taken-sole : s.candidates.count ≡ 1 → ((q : Position) (xs : List Path) → Stands book s q → PathsFor xs paths → KeptIs q xs (extended q (get_or q.candidates 0 (pos 0)) xs) k) → Taken book s paths r
   taken-sole one is = taken (λ q xs S W. subst⁻¹ (λ (ys : List Path). KeptIs q xs ys k) (stepped-sole q xs (candidates-length S K.usable ∙ one)) (is q xs S W))
 
   pub taken-several : (s.candidates.count ≡ 1 → ⊥)
-      → ((q : Position) (xs : List Path) → PositionFor book s q → PathsFor xs paths → KeptIs q xs (kept (merged_at q (ways xs q.candidates) (counts_named [] xs))) k) → Taken book s paths r
+      → ((q : Position) (xs : List Path) → Stands book s q → PathsFor xs paths → KeptIs q xs (kept (merged_at q (ways xs q.candidates) (counts_named [] xs))) k) → Taken book s paths r
   taken-several more is =
       taken (λ q xs S W. subst⁻¹ (λ (ys : List Path). KeptIs q xs ys k) (stepped-several q xs (λ e. more (sym (candidates-length S K.usable) ∙ e))) (is q xs S W))

@@ -24,8 +24,8 @@ use Rattle.beam_paths.specs.Held.{no_path, PathsFor, Named}
 use Rattle.beam_paths.specs.Entries.{taking, EntryIs}
 use Rattle.beam_paths.specs.declared.Paths.{Paths}
 use Rattle.beam_paths.specs.declared.entry.Entry.{Entry}
-use Rattle.beam_row.specs.Held.{Spot, PositionFor, Takeable}
-use Rattle.beam_row.specs.Entries.{Priceable, way_at, tried, alone, PathIs, Leads, BothOf}
+use Rattle.beam_row.specs.Held.{Spot, Stands, Takeable}
+use Rattle.beam_row.specs.Entries.{Priced, way_at, tried, alone, PathIs, Leads, BothOf}
 use Rattle.beam_row.proofs.Growing.{mem-at}
 use Rattle.beam_row.proofs.Reach.{best-other, best-more, byte-way, both-past, both-merged, ways_next, paths-next}
 
@@ -34,7 +34,7 @@ abbrev pub read : Spot → ℕ → ℤ
 read s i = to_z w32 (of_z w32 (get_or s.candidates.levels i (pos 0)))
 
 -- tail is the cost of path j with candidate i, whose `nz` is m
-module _ {book : Book} {s : Spot} {q : Position} (xs : List Path) (j : ℕ) {i m : ℕ} {tail : Float} (S : PositionFor book s q) (U : Usable s.candidates)
+module _ {book : Book} {s : Spot} {q : Position} (xs : List Path) (j : ℕ) {i m : ℕ} {tail : Float} (S : Stands book s q) (U : Usable s.candidates)
     (J : j < length xs) (I : i < s.candidates.count) (M : m ≡ nz (read s i)) (C : tail ≡ (get_or xs j no_path).cost m) where
   level_is : read s i ≡ get_or q.candidates i (pos 0)
   level_is = usable-listed U i I ∙ ap (λ (l : List ℤ). get_or l i (pos 0)) (sym S.candidates_are)
@@ -109,7 +109,7 @@ module _ {book : Book} {s : Spot} {q : Position} (xs : List Path) (j : ℕ) {i m
 -- candidate i more, where the candidates whose `nz` is z lead path j to the entry's count
 pub record OneMore (book : Book) (s : Spot) (j z i : ℕ) (tail : Float) (e f : Entry) : Type 0 where
   pub same : f.remaining ≡ e.remaining
-  pub more : (q : Position) (xs : List Path) (ws : List Way) → PositionFor book s q → Leads xs j z tail e.remaining → BothOf q xs ws e → BothOf q xs (ws ++ (way_at q xs j i ∷ [])) f
+  pub more : (q : Position) (xs : List Path) (ws : List Way) → Stands book s q → Leads xs j z tail e.remaining → BothOf q xs ws e → BothOf q xs (ws ++ (way_at q xs j i ∷ [])) f
 
 module _ {book : Book} {s : Spot} {j z i m : ℕ} {tail : Float} {e f : Entry} (U : Usable s.candidates) (I : i < s.candidates.count) (M : m ≡ nz (read s i)) where
   pub more-tried : {context : ℕ} → m ≡ z → context ≡ context_at s.place e.remaining → f ≡ tried book s.place context (read s i) tail (16 * j + i) e → OneMore book s j z i tail e f
@@ -128,7 +128,7 @@ module _ {book : Book} {s : Spot} {j z i m : ℕ} {tail : Float} {e f : Entry} (
 
 -- ---- what the code needs
 pub priced-of : {book : Book} {s : Spot} {paths : Paths} {distortion : List Float} → Takeable book s paths → Each (distortion_at s.place) (listed s.candidates) distortion
-    → Priceable book s.place s.candidates.count s.candidates.levels distortion
+    → Priced book s.place s.candidates.count s.candidates.levels distortion
 priced-of K each = record { priced = K.priced; usable = K.usable; each = each }
 
 module _ {book : Book} {s : Spot} {paths : Paths} (K : Takeable book s paths) {j : ℕ} (J : j < paths.count) where
@@ -149,7 +149,7 @@ pub distortion_is : (s : Spot) {distortion : List Float} {i : ℕ} → Usable s.
 distortion_is s {distortion} {i} U D I = D.at i (rw (listed-length U) I) ∙ ap (distortion_at s.place) (sym (usable-listed U i I))
 
 -- ---- the loops
-pub candidates-length : {book : Book} {s : Spot} {q : Position} → PositionFor book s q → Usable s.candidates → length q.candidates ≡ s.candidates.count
+pub candidates-length : {book : Book} {s : Spot} {q : Position} → Stands book s q → Usable s.candidates → length q.candidates ≡ s.candidates.count
 candidates-length S U = ap length S.candidates_are ∙ listed-length U
 
 module _ {xs : List Path} {j n : ℕ} {first second : Float} (P : PathIs xs j n first second) where
@@ -189,7 +189,7 @@ module _ {q : Position} {xs : List Path} {paths : Paths} {e : Entry} (W : PathsF
   pub paths-all : {j n : ℕ} → j ≡ paths.count → e.remaining ≡ n → BothOf q xs (ways (take j xs) q.candidates) e → EntryIs q xs (merged q (ways xs q.candidates) n) e
   paths-all {j} last r w = both-merged r (subst (λ (us : List Path). BothOf q xs (ways us q.candidates) e) (take_all j xs (omega (arith, W.count_is, last))) w)
 
-module _ {book : Book} {s : Spot} {q : Position} {xs : List Path} (ws : List Way) (x : Path) {e : Entry} {i : ℕ} (S : PositionFor book s q) (U : Usable s.candidates) where
+module _ {book : Book} {s : Spot} {q : Position} {xs : List Path} (ws : List Way) (x : Path) {e : Entry} {i : ℕ} (S : Stands book s q) (U : Usable s.candidates) where
   pub candidates-more : i < s.candidates.count → BothOf q xs ((ws ++ ways_of x (take i q.candidates)) ++ (record { path = x; level = get_or q.candidates i (pos 0) } ∷ [])) e → BothOf q xs (ws ++ ways_of x (take (i + 1) q.candidates)) e
   candidates-more I w = subst (λ (us : List Way). BothOf q xs us e) (ways_next ws x q.candidates i (rw (candidates-length S U) I)) w
 

@@ -24,10 +24,10 @@ abbrev pub gathered : ℕ → List ℕ → List Float → Paths
 gathered count remaining costs = record { count = count; remaining = remaining; costs = costs }
 
 -- what prices the candidates: a book that passed, levels that have a bias, and the distortion of each
-pub record Priceable (book : Book) (x : Place) (candidate_count : ℕ) (levels : List ℤ) (distortion : List Float) : Type 0 where
+pub record Priced (book : Book) (x : Place) (count : ℕ) (levels : List ℤ) (distortion : List Float) : Type 0 where
   pub priced : book_refusal book ≡ 0
-  pub usable : Usable (in_array candidate_count levels)
-  pub each : Each (distortion_at x) (listed (in_array candidate_count levels)) distortion
+  pub usable : Usable (in_array count levels)
+  pub each : Each (distortion_at x) (listed (in_array count levels)) distortion
 
 -- path j has this count, and these costs for `prev` 0 and 1
 pub record PathIs (xs : List Path) (j remaining : ℕ) (first second : Float) : Type 0 where

@@ -22,10 +22,10 @@ pub record Spot : Type 0 where
   pub candidates : Candidates
 
 abbrev pub spot_of : Place → ℕ → List ℤ → Spot
-spot_of x candidate_count levels = record { place = x; candidates = in_array candidate_count levels }
+spot_of x count levels = record { place = x; candidates = in_array count levels }
 
 -- q is the position that the spot and the book stand for
-pub record PositionFor (book : Book) (s : Spot) (q : Position) : Type 0 where
+pub record Stands (book : Book) (s : Spot) (q : Position) : Type 0 where
   pub candidates_are : q.candidates ≡ listed s.candidates
   pub price_is : (r p : ℕ) (c : ℤ) → p ≤ 1 → Memᴰ c (listed s.candidates) → q.price r p c ≡ local_at book s.place r p c
 
@@ -43,6 +43,6 @@ pub record Takeable (book : Book) (s : Spot) (paths : Paths) : Type 0 where
 
 -- what it leaves: the paths from the position on, the bytes that they came by, and no count above the next one
 pub record Taken (book : Book) (s : Spot) (paths : Paths) (r : Step) : Type 0 where
-  pub stands : (q : Position) (xs : List Path) → PositionFor book s q → PathsFor xs paths → PathsFor (stepped q xs) r.paths
-  pub remembered : (q : Position) (xs : List Path) → PositionFor book s q → PathsFor xs paths → Remembered q xs (stepped q xs) r.choices
+  pub stands : (q : Position) (xs : List Path) → Stands book s q → PathsFor xs paths → PathsFor (stepped q xs) r.paths
+  pub remembered : (q : Position) (xs : List Path) → Stands book s q → PathsFor xs paths → Remembered q xs (stepped q xs) r.choices
   pub upto : (most : ℕ) → ((j : ℕ) → j < paths.count → get_or paths.remaining j 0 ≤ most) → (j : ℕ) → j < r.paths.count → get_or r.paths.remaining j 0 ≤ suc most

@@ -8,7 +8,7 @@ ghost use Rattle.beam_paths.specs.Path.{Path, ways as waysBy};
 ghost use Rattle.beam_paths.specs.Step.{extended, counts_named, merged_at, kept as cheapest};
 ghost use Rattle.beam_paths.specs.Held.{PathsFor};
 ghost use Rattle.beam_paths.specs.Entries.{KeptIs};
-ghost use Rattle.beam_row.specs.Held.{spot_of, PositionFor, Takeable, Taken};
+ghost use Rattle.beam_row.specs.Held.{spot_of, Stands, Takeable, Taken};
 
 use beam_paths::kept::Kept;
 use beam_paths::{Paths, Step};
@@ -26,7 +26,7 @@ fn extend(
 ) -> Kept
     requires { Takeable (book_in map.now configs.now symbols.now ready.now) (spot_of place 1 levels.now) paths }
     ensures count_bound { result.count ≤ 3 }
-    ensures kept_is { (q : Position) (xs : List Path) → PositionFor (book_in map.now configs.now symbols.now ready.now) (spot_of place 1 levels.now) q → PathsFor xs paths
+    ensures kept_is { (q : Position) (xs : List Path) → Stands (book_in map.now configs.now symbols.now ready.now) (spot_of place 1 levels.now) q → PathsFor xs paths
         → KeptIs q xs (extended q (get_or q.candidates 0 (pos 0)) xs) result }
 {
     let distortion = place.distortion(levels[0]);
@@ -59,16 +59,16 @@ fn merge(
     ready: &[f32],
     place: Place,
     levels: &[i32; 5],
-    candidate_count: usize,
+    count: usize,
     paths: Paths,
 ) -> Kept
-    requires { Takeable (book_in map.now configs.now symbols.now ready.now) (spot_of place candidate_count levels.now) paths }
+    requires { Takeable (book_in map.now configs.now symbols.now ready.now) (spot_of place count levels.now) paths }
     ensures count_bound { result.count ≤ 3 }
-    ensures kept_is { (q : Position) (xs : List Path) → PositionFor (book_in map.now configs.now symbols.now ready.now) (spot_of place candidate_count levels.now) q → PathsFor xs paths
+    ensures kept_is { (q : Position) (xs : List Path) → Stands (book_in map.now configs.now symbols.now ready.now) (spot_of place count levels.now) q → PathsFor xs paths
         → KeptIs q xs (cheapest (merged_at q (waysBy xs q.candidates) (counts_named [] xs))) result }
 {
     let mut distortion = [0.0f32; 5];
-    steps::reading::distortions(place, levels, candidate_count, &mut distortion);
+    steps::reading::distortions(place, levels, count, &mut distortion);
     let counts = beam_paths::counts::counts_named(paths);
     let remaining = paths.remaining;
     let costs = paths.costs;
@@ -83,7 +83,7 @@ fn merge(
             place,
             levels,
             &distortion,
-            candidate_count,
+            count,
             paths.count,
             &remaining,
             &costs,
@@ -95,7 +95,7 @@ fn merge(
     kept
 }
 
-// From the paths behind a position to the paths from it on. The first `candidate_count` of `levels` are its candidates.
+// From the paths behind a position to the paths from it on. The first `count` of `levels` are its candidates.
 pub fn take_step(
     map: &[u8],
     configs: &[u8],
@@ -103,25 +103,16 @@ pub fn take_step(
     ready: &[f32],
     place: Place,
     levels: &[i32; 5],
-    candidate_count: usize,
+    count: usize,
     paths: Paths,
 ) -> Step
-    requires { Takeable (book_in map.now configs.now symbols.now ready.now) (spot_of place candidate_count levels.now) paths }
-    ensures { Taken (book_in map.now configs.now symbols.now ready.now) (spot_of place candidate_count levels.now) paths result }
+    requires { Takeable (book_in map.now configs.now symbols.now ready.now) (spot_of place count levels.now) paths }
+    ensures { Taken (book_in map.now configs.now symbols.now ready.now) (spot_of place count levels.now) paths result }
 {
-    if candidate_count == 1 {
+    if count == 1 {
         let kept = extend(map, configs, symbols, ready, place, levels, paths);
         return kept.step();
     }
-    let kept = merge(
-        map,
-        configs,
-        symbols,
-        ready,
-        place,
-        levels,
-        candidate_count,
-        paths,
-    );
+    let kept = merge(map, configs, symbols, ready, place, levels, count, paths);
     kept.step()
 }

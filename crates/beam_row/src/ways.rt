@@ -10,8 +10,8 @@ ghost use Rattle.beam_paths.specs.Path.{Path, Way, ways_of, ways};
 ghost use Rattle.beam_paths.specs.Step.{merged};
 ghost use Rattle.beam_paths.specs.Held.{no_path, PathsFor};
 ghost use Rattle.beam_paths.specs.Entries.{EntryIs};
-ghost use Rattle.beam_row.specs.Held.{spot_of, PositionFor, Takeable};
-ghost use Rattle.beam_row.specs.Entries.{gathered, Priceable, PathIs, Leads, tried, alone, BothOf};
+ghost use Rattle.beam_row.specs.Held.{spot_of, Stands, Takeable};
+ghost use Rattle.beam_row.specs.Entries.{gathered, Priced, PathIs, Leads, tried, alone, BothOf};
 
 use beam_paths::entry::{Best, Entry};
 use steps::Place;
@@ -54,23 +54,23 @@ fn try_levels(
     place: Place,
     levels: &[i32; 5],
     distortion: &[f32; 5],
-    candidate_count: usize,
+    count: usize,
     context: usize,
     nonzero: usize,
     tail: f32,
     j: usize,
     entry: Entry,
 ) -> Entry
-    requires priceable { Priceable (book_in map.now configs.now symbols.now ready.now) place candidate_count levels.now distortion.now }
+    requires priced { Priced (book_in map.now configs.now symbols.now ready.now) place count levels.now distortion.now }
     requires context_value { (context ≡ context_at place entry.remaining) × (context + 1 < 14850) }
     requires j_bound { j < 3 }
     ensures remaining_value { result.remaining ≡ entry.remaining }
-    ensures both_of { (q : Position) (xs : List Path) (ws : List Way) → PositionFor (book_in map.now configs.now symbols.now ready.now) (spot_of place candidate_count levels.now) q → Leads xs j nonzero tail entry.remaining
+    ensures both_of { (q : Position) (xs : List Path) (ws : List Way) → Stands (book_in map.now configs.now symbols.now ready.now) (spot_of place count levels.now) q → Leads xs j nonzero tail entry.remaining
         → BothOf q xs ws entry → BothOf q xs (ws ++ ways_of (get_or xs j no_path) q.candidates) result }
 {
     let mut best = entry;
     let mut i = 0;
-    while i < candidate_count {
+    while i < count {
         let level = levels[i];
         if steps::nonzero(level) == nonzero {
             best = try_way(
@@ -101,7 +101,7 @@ fn try_path(
     place: Place,
     levels: &[i32; 5],
     distortion: &[f32; 5],
-    candidate_count: usize,
+    count: usize,
     context: usize,
     remaining: usize,
     first: f32,
@@ -109,44 +109,22 @@ fn try_path(
     j: usize,
     entry: Entry,
 ) -> Entry
-    requires priceable { Priceable (book_in map.now configs.now symbols.now ready.now) place candidate_count levels.now distortion.now }
+    requires priced { Priced (book_in map.now configs.now symbols.now ready.now) place count levels.now distortion.now }
     requires context_value { (context ≡ context_at place entry.remaining) × (context + 1 < 14850) }
     requires remaining_bound { (remaining < 65536) × (j < 3) }
     ensures remaining_value { result.remaining ≡ entry.remaining }
-    ensures both_of { (q : Position) (xs : List Path) (ws : List Way) → PositionFor (book_in map.now configs.now symbols.now ready.now) (spot_of place candidate_count levels.now) q → PathIs xs j remaining first second
+    ensures both_of { (q : Position) (xs : List Path) (ws : List Way) → Stands (book_in map.now configs.now symbols.now ready.now) (spot_of place count levels.now) q → PathIs xs j remaining first second
         → BothOf q xs ws entry → BothOf q xs (ws ++ ways_of (get_or xs j no_path) q.candidates) result }
 {
     if remaining == entry.remaining {
         return try_levels(
-            map,
-            configs,
-            symbols,
-            ready,
-            place,
-            levels,
-            distortion,
-            candidate_count,
-            context,
-            0,
-            first,
-            j,
+            map, configs, symbols, ready, place, levels, distortion, count, context, 0, first, j,
             entry,
         );
     }
     if remaining + 1 == entry.remaining {
         return try_levels(
-            map,
-            configs,
-            symbols,
-            ready,
-            place,
-            levels,
-            distortion,
-            candidate_count,
-            context,
-            1,
-            second,
-            j,
+            map, configs, symbols, ready, place, levels, distortion, count, context, 1, second, j,
             entry,
         );
     }
@@ -162,16 +140,16 @@ pub(crate) fn merge_count(
     place: Place,
     levels: &[i32; 5],
     distortion: &[f32; 5],
-    candidate_count: usize,
+    count: usize,
     paths: usize,
     remaining: &[usize],
     costs: &[f32],
     n: usize,
 ) -> Entry
-    requires takeable { Takeable (book_in map.now configs.now symbols.now ready.now) (spot_of place candidate_count levels.now) (gathered paths remaining.now costs.now) }
-    requires priceable { Priceable (book_in map.now configs.now symbols.now ready.now) place candidate_count levels.now distortion.now }
+    requires takeable { Takeable (book_in map.now configs.now symbols.now ready.now) (spot_of place count levels.now) (gathered paths remaining.now costs.now) }
+    requires priced { Priced (book_in map.now configs.now symbols.now ready.now) place count levels.now distortion.now }
     requires k_bound { n + place.k ≤ 64 * place.covered }
-    ensures { (q : Position) (xs : List Path) → PositionFor (book_in map.now configs.now symbols.now ready.now) (spot_of place candidate_count levels.now) q → PathsFor xs (gathered paths remaining.now costs.now)
+    ensures { (q : Position) (xs : List Path) → Stands (book_in map.now configs.now symbols.now ready.now) (spot_of place count levels.now) q → PathsFor xs (gathered paths remaining.now costs.now)
         → EntryIs q xs (merged q (ways xs q.candidates) n) result }
 {
     let context = place.context(n);
@@ -194,7 +172,7 @@ pub(crate) fn merge_count(
             place,
             levels,
             distortion,
-            candidate_count,
+            count,
             context,
             remaining[j],
             costs[2 * j],

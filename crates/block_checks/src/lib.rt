@@ -1,7 +1,6 @@
 // Checks 7 to 14, 18 and 26, in the order in which they are made.
 ghost use Rattle.std.specs.Prelude.{◌≡◌, true, ◌&&◌, ◌+◌, ◌*◌, ◌≤◌, eqb, leb, pos, Float, length, get_or};
 ghost use Rattle.ac_context.specs.Contexts.{is_power_below};
-ghost use Rattle.bias.specs.declared.DequantBias.{DequantBias};
 ghost use Rattle.block.specs.Block.{block_of, covered, ideal_at};
 ghost use Rattle.block.specs.Checks.{block_refusal, strategy_covered, valid_width, enough_room};
 ghost use Rattle.candidates.specs.Candidates.{is_current};
@@ -9,8 +8,7 @@ ghost use Rattle.candidates.specs.Nearest.{is_ideal};
 ghost use Rattle.prices.specs.Checks.{each};
 ghost use Rattle.scan.specs.Scan.{Perm, level_at};
 ghost use Rattle.weights.specs.Window.{window_for};
-ghost use Rattle.weights.specs.declared.Settings.{Settings};
-ghost use Rattle.block_checks.specs.Parts.{form_refusal, content_refusal, Formed};
+ghost use Rattle.block_checks.specs.Parts.{form_refusal, content_refusal};
 
 use bias::DequantBias;
 use block::Shape;
@@ -196,6 +194,8 @@ fn check_form(
 // Checks 11 to 13, in a window of at most `cap` positions.
 fn check_content(
     shape: Shape,
+    settings: Settings,
+    bias: DequantBias,
     scale: f32,
     scan: &[u32],
     source: &[f32],
@@ -203,8 +203,8 @@ fn check_content(
     levels: &[i32],
     cap: usize,
 ) -> u32
-    requires { Formed shape scale scan.now source.now inv_qm.now levels.now }
-    ensures { (settings : Settings) (bias : DequantBias) → result ≡ content_refusal (window_for cap (shape.cx * shape.cy)) (block_of shape settings bias scale scan.now source.now inv_qm.now levels.now) }
+    requires { form_refusal (block_of shape settings bias scale scan.now source.now inv_qm.now levels.now) ≡ 0 }
+    ensures { result ≡ content_refusal (window_for cap (shape.cx * shape.cy)) (block_of shape settings bias scale scan.now source.now inv_qm.now levels.now) }
 {
     let covered = covered_blocks(shape.cx, shape.cy);
     if !scan::each_once(scan) {
@@ -253,7 +253,9 @@ pub fn check_block(
     if !valid_width(width) {
         return 26;
     }
-    check_content(shape, scale, scan, source, inv_qm, levels, cap)
+    check_content(
+        shape, settings, bias, scale, scan, source, inv_qm, levels, cap,
+    )
 }
 
 // Check 14: `bytes` choice bytes a window position, and `floats` costs in each row.

@@ -11,19 +11,19 @@ word_at bytes at =
     get_or bytes at 0 + 256 * get_or bytes (at + 1) 0 + 65536 * get_or bytes (at + 2) 0 + 16777216 * get_or bytes (at + 3) 0
 
 -- f 0, f 1 and so on, n of them
-unfoldable pub tabled : {A : Type 0} → (ℕ → A) → ℕ → List A
-tabled f zero = []
-tabled f (suc n) = f 0 ∷ tabled (λ i. f (suc i)) n
+unfoldable pub listed : {A : Type 0} → (ℕ → A) → ℕ → List A
+listed f zero = []
+listed f (suc n) = f 0 ∷ listed (λ i. f (suc i)) n
 
 -- the n bytes, numbers, floats or levels that stand from `start` on
 abbrev pub bytes_from : List ℕ → ℕ → ℕ → List ℕ
-bytes_from bytes start = tabled (λ i. get_or bytes (start + i) 0)
+bytes_from bytes start = listed (λ i. get_or bytes (start + i) 0)
 
 abbrev pub words_from : List ℕ → ℕ → ℕ → List ℕ
-words_from bytes start = tabled (λ i. word_at bytes (start + 4 * i))
+words_from bytes start = listed (λ i. word_at bytes (start + 4 * i))
 
 abbrev pub floats_from : List ℕ → ℕ → ℕ → List Float
-floats_from bytes start = tabled (λ i. of_bits binary32 (word_at bytes (start + 4 * i)))
+floats_from bytes start = listed (λ i. of_bits binary32 (word_at bytes (start + 4 * i)))
 
 abbrev pub levels_from : List ℕ → ℕ → ℕ → List ℤ
-levels_from bytes start = tabled (λ i. to_z w32 (word_at bytes (start + 4 * i)))
+levels_from bytes start = listed (λ i. to_z w32 (word_at bytes (start + 4 * i)))

@@ -9,8 +9,8 @@ use Rattle.block.specs.Block.{block_of}
 use Rattle.block.specs.declared.Shape.{Shape}
 use Rattle.block.specs.Outcome.{Result, lent_of}
 use Rattle.prices.specs.Book.{Book}
-use Rattle.search_outcome.specs.Outcome.{Promised}
-use Rattle.search_outcome.specs.declared.Search.{Search}
+use Rattle.searches.specs.Outcome.{Promised}
+use Rattle.searches.specs.declared.Search.{Search}
 use Rattle.weights.specs.declared.Settings.{Settings}
 
 pub on-copy : {w : ℕ} {search : Search} {book : Book} {shape : Shape} {settings : Settings} {bias : DequantBias} {scale : Float} {scan : List ℕ} {source inv-qm : List Float}

@@ -4,7 +4,7 @@ ghost use Rattle.block.specs.Block.{block_of};
 ghost use Rattle.block.specs.Outcome.{lent_of, result_of};
 ghost use Rattle.block_lists.specs.Lengths.{BookWithin};
 ghost use Rattle.prices.specs.Book.{book_of};
-ghost use Rattle.search_outcome.specs.Outcome.{Promised};
+ghost use Rattle.searches.specs.Outcome.{Promised};
 
 use block::Answer;
 use block_file::fields::Head;
@@ -12,18 +12,10 @@ use block_file::record::BlockRecord;
 use block_file::{fields, record};
 use block_lists::{BookLengths, RoomLengths};
 use search_lines::OUT;
-use search_outcome::Search;
-use searches::rdoq_block;
+use searches::{Search, rdoq_block};
 
 // The searches by their numbers, from 0 on.
 const SEARCHES: u32 = 4;
-
-// What is printed for a block: a line for each search; or besides what the levels cost, as read and as each search wrote them.
-#[derive(Drop)]
-pub enum Show {
-    Searches,
-    Costs,
-}
 
 // Searches on a copy of the levels.
 fn run(
@@ -90,117 +82,8 @@ fn print_named(
     }
 }
 
-// Prints what the levels cost as read, where costs are shown; `work` is a room.
-fn print_before(
-    show: Show,
-    number: u64,
-    clusters: u32,
-    map: &[u8],
-    configs: &[u8],
-    symbols: &[f32],
-    ready: &[f32],
-    head: Head,
-    scan: &[u32],
-    source: &[f32],
-    inv_qm: &[f32],
-    levels: &[i32],
-    work: &mut [i32],
-    out: &mut [u8; OUT],
-    used: usize,
-) -> usize
-    requires { (length levels.now ≡ length work.old) × (used ≤ 65536) }
-    ensures { result ≤ 65536 }
-{
-    match show {
-        Show::Searches => used,
-        Show::Costs => block_costs::print_input(
-            number, clusters, map, configs, symbols, ready, head, scan, source, inv_qm, levels,
-            work, out, used,
-        ),
-    }
-}
-
-// Prints what the levels cost that a search wrote, where costs are shown.
-fn print_after(
-    show: Show,
-    number: u64,
-    clusters: u32,
-    map: &[u8],
-    configs: &[u8],
-    symbols: &[f32],
-    ready: &[f32],
-    head: Head,
-    scan: &[u32],
-    source: &[f32],
-    inv_qm: &[f32],
-    work: &[i32],
-    out: &mut [u8; OUT],
-    used: usize,
-) -> usize
-    requires { used ≤ 65536 }
-    ensures { result ≤ 65536 }
-{
-    match show {
-        Show::Searches => used,
-        Show::Costs => block_costs::print_costs(
-            b" Levels ",
-            number,
-            clusters,
-            map,
-            configs,
-            symbols,
-            ready,
-            head,
-            scan,
-            source,
-            inv_qm,
-            work,
-            work,
-            out,
-            used,
-        ),
-    }
-}
-
-// Runs a search and prints its line, with costs where they are shown. Answers how much of `out` is used then.
-fn search_one(
-    show: Show,
-    search: Search,
-    number: u64,
-    clusters: u32,
-    map: &[u8],
-    configs: &[u8],
-    symbols: &[f32],
-    ready: &[f32],
-    head: Head,
-    scan: &[u32],
-    source: &[f32],
-    inv_qm: &[f32],
-    levels: &[i32],
-    work: &mut [i32],
-    choices: &mut [u8],
-    row_a: &mut [f32],
-    row_b: &mut [f32],
-    out: &mut [u8; OUT],
-    used: usize,
-) -> usize
-    requires { (length levels.now ≡ length work.old) × (used ≤ 65536) }
-    ensures { result ≤ 65536 }
-{
-    let answer = run(
-        search, clusters, map, configs, symbols, ready, head, scan, source, inv_qm, levels, work,
-        choices, row_a, row_b,
-    );
-    let end = print_named(search, number, answer, levels, work, out, used);
-    print_after(
-        show, number, clusters, map, configs, symbols, ready, head, scan, source, inv_qm, work,
-        out, end,
-    )
-}
-
-// Runs the searches one after the other.
+// Runs the searches one after the other and prints a line for each. Answers how much of `out` is used then.
 fn search_all(
-    show: Show,
     number: u64,
     clusters: u32,
     map: &[u8],
@@ -222,39 +105,20 @@ fn search_all(
     requires { (length levels.now ≡ length work.old) × (used ≤ 65536) }
     ensures { result ≤ 65536 }
 {
-    let mut end = print_before(
-        show, number, clusters, map, configs, symbols, ready, head, scan, source, inv_qm, levels,
-        work, out, used,
-    );
+    let mut end = used;
     for numbered in 0..SEARCHES {
-        end = search_one(
-            show,
-            c_named::named(numbered),
-            number,
-            clusters,
-            map,
-            configs,
-            symbols,
-            ready,
-            head,
-            scan,
-            source,
-            inv_qm,
-            levels,
-            work,
-            choices,
-            row_a,
-            row_b,
-            out,
-            end,
+        let search = c_named::named(numbered);
+        let answer = run(
+            search, clusters, map, configs, symbols, ready, head, scan, source, inv_qm, levels,
+            work, choices, row_a, row_b,
         );
+        end = print_named(search, number, answer, levels, work, out, end);
     }
     end
 }
 
 // Searches a block whose lists are loaded, under the latest book, on rooms of the lengths asked for.
 fn search_block(
-    show: Show,
     number: u64,
     book: BookLengths,
     map: &[u8],
@@ -293,7 +157,6 @@ fn search_block(
     let of_a = rooms.row_a;
     let of_b = rooms.row_b;
     search_all(
-        show,
         number,
         book.clusters,
         &map[..of_map],
@@ -314,9 +177,8 @@ fn search_block(
     )
 }
 
-// Searches the block of a record by each search, and prints what `show` says. Answers how much of `out` is used then.
+// Searches the block of a record by each search, and prints a line for each. Answers how much of `out` is used then.
 pub fn search_record(
-    show: Show,
     bytes: &[u8],
     half_width: u32,
     number: u64,
@@ -345,7 +207,7 @@ pub fn search_record(
     let lists = record::block_record(bytes);
     block_lists::load_block(bytes, lists, levels, scan, source, inv_qm);
     search_block(
-        show, number, book, map, configs, symbols, ready, head, lists, rooms, scan, source, inv_qm,
+        number, book, map, configs, symbols, ready, head, lists, rooms, scan, source, inv_qm,
         levels, work, choices, row_a, row_b, out, used,
     )
 }

@@ -13,5 +13,5 @@ unfoldable pub filled_ready : Book → List Float
 filled_ready b = cond (eqb (fill_refusal b) 0) (paint (ready_entry b.configs b.symbols) 0 (256 * b.clusters) b.ready) b.ready
 
 -- the book with its ready prices filled
-unfoldable pub filled_book : Book → Book
-filled_book b = record { clusters = b.clusters; map = b.map; configs = b.configs; symbols = b.symbols; ready = filled_ready b }
+unfoldable pub filled : Book → Book
+filled b = record { clusters = b.clusters; map = b.map; configs = b.configs; symbols = b.symbols; ready = filled_ready b }

@@ -1,2 +1,3 @@
-// The calls on a price book, lent in its parts. `rdoq` passes them on.
+// The calls on a price book, lent in its parts or as a view. `rdoq` passes them on.
 pub mod book;
+pub mod view;

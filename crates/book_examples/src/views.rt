@@ -3,9 +3,8 @@
 ghost use Rattle.std.specs.Prelude.{◌≡◌, length};
 
 use answers::answer::{Real, RealPair};
-use book_calls::book;
+use book_calls::{book, view};
 use libc::STDOUT_FILENO;
-use view_calls::view;
 
 // A map of every context to cluster 0, but of context 1 to cluster 1. Only its length is told, which lending it needs.
 fn two_clusters() -> [u8; 14850]

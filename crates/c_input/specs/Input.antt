@@ -8,7 +8,7 @@ use Rattle.block.specs.declared.Answer.TheVariants.{Cost}
 use Rattle.costs.specs.Cost.{cost as is_cost}
 use Rattle.input_cost.specs.Input.{input_refusal, input_answer, AtLambda}
 use Rattle.prices.specs.Book.{Book}
-use Rattle.trellis_outcome.specs.Outcome.{banded_outcome}
+use Rattle.trellis.specs.Outcome.{banded_outcome}
 use Rattle.weights.specs.Window.{window_of}
 use Rattle.c_answers.specs.Told.{answer_code, cost_after, count_after}
 

@@ -1,9 +1,9 @@
 // The leaf calls, for programs in C and in other languages that call C. `include/rdoq.h` declares them.
 ghost use Rattle.std.specs.Prelude.{◌≡◌};
-ghost use Rattle.context_calls.specs.Contexts.{block_context_reply, non_zero_context_reply, offset_reply, zero_density_reply};
+ghost use Rattle.token_calls.specs.Contexts.{block_context_reply, non_zero_context_reply, offset_reply, zero_density_reply};
 ghost use Rattle.level_calls.specs.Dequant.{level_reply};
 ghost use Rattle.token_calls.specs.Tokens.{pack_reply, split_reply};
-ghost use Rattle.weight_calls.specs.Weighing.{lambda_reply, chroma_reply, distortion_reply, window_reply};
+ghost use Rattle.level_calls.specs.Weighing.{lambda_reply, chroma_reply, distortion_reply, window_reply};
 ghost use Rattle.c_answers.specs.Parts.{bias_of, config_of};
 ghost use Rattle.c_answers.specs.Told.{number_code, number_after, real_code, real_after, token_code, symbol_after, extra_after, bits_after, lengths_code, length_after, restoring_after};
 
@@ -57,7 +57,7 @@ pub extern "C" fn rdoq_fine_block_context(
     ensures context_after { context.new ≡ number_after (block_context_reply channel strategy qf_hi) context.old }
 {
     tell_number(
-        context_calls::contexts::fine_block_context(channel, strategy, qf_hi),
+        token_calls::contexts::fine_block_context(channel, strategy, qf_hi),
         context,
     )
 }
@@ -73,7 +73,7 @@ pub extern "C" fn rdoq_fine_non_zero_context(
     ensures context_after { context.new ≡ number_after (non_zero_context_reply non_zeros fine_block_ctx) context.old }
 {
     tell_number(
-        context_calls::contexts::fine_non_zero_context(non_zeros, fine_block_ctx),
+        token_calls::contexts::fine_non_zero_context(non_zeros, fine_block_ctx),
         context,
     )
 }
@@ -88,7 +88,7 @@ pub extern "C" fn rdoq_fine_zero_density_contexts_offset(
     ensures offset_after { offset.new ≡ number_after (offset_reply fine_block_ctx) offset.old }
 {
     tell_number(
-        context_calls::contexts::fine_zero_density_contexts_offset(fine_block_ctx),
+        token_calls::contexts::fine_zero_density_contexts_offset(fine_block_ctx),
         offset,
     )
 }
@@ -106,7 +106,7 @@ pub extern "C" fn rdoq_zero_density_context(
     ensures context_after { context.new ≡ number_after (zero_density_reply covered_blocks nonzeros_left k prev) context.old }
 {
     tell_number(
-        context_calls::contexts::zero_density_context(nonzeros_left, k, covered_blocks, prev),
+        token_calls::contexts::zero_density_context(nonzeros_left, k, covered_blocks, prev),
         context,
     )
 }
@@ -123,7 +123,7 @@ pub extern "C" fn rdoq_zero_density_context_8x8(
     ensures context_after { context.new ≡ number_after (zero_density_reply 1 nonzeros_left k prev) context.old }
 {
     tell_number(
-        context_calls::contexts::zero_density_context_8x8(nonzeros_left, k, prev),
+        token_calls::contexts::zero_density_context_8x8(nonzeros_left, k, prev),
         context,
     )
 }
@@ -147,7 +147,7 @@ pub extern "C" fn rdoq_lambda(rd: f32, tuning: f32, ratio: f32, lambda: &mut f32
     ensures lambda_after { lambda.new ≡ real_after (lambda_reply rd tuning ratio) lambda.old }
 {
     tell_real(
-        weight_calls::weighing::rdoq_lambda(rd, tuning, ratio),
+        level_calls::weighing::rdoq_lambda(rd, tuning, ratio),
         lambda,
     )
 }
@@ -158,7 +158,7 @@ pub extern "C" fn rdoq_chroma_rdoq_weight(distance: f32, weight: &mut f32) -> u3
     ensures value { result ≡ real_code (chroma_reply distance) }
     ensures weight_after { weight.new ≡ real_after (chroma_reply distance) weight.old }
 {
-    tell_real(weight_calls::weighing::chroma_rdoq_weight(distance), weight)
+    tell_real(level_calls::weighing::chroma_rdoq_weight(distance), weight)
 }
 
 // Writes the weight of a position in a window.
@@ -173,7 +173,7 @@ pub extern "C" fn rdoq_distortion_weight(
     ensures weight_after { weight.new ≡ real_after (distortion_reply window_index window_len distance) weight.old }
 {
     tell_real(
-        weight_calls::weighing::rdoq_distortion_weight(window_index, window_len, distance),
+        level_calls::weighing::rdoq_distortion_weight(window_index, window_len, distance),
         weight,
     )
 }
@@ -190,7 +190,7 @@ pub extern "C" fn rdoq_window_len(
     ensures restoring_after { restoring.new ≡ restoring_after (window_reply covered_blocks) restoring.old }
 {
     tell_lengths(
-        weight_calls::weighing::rdoq_window_len(covered_blocks),
+        level_calls::weighing::rdoq_window_len(covered_blocks),
         length,
         restoring,
     )

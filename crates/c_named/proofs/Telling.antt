@@ -9,8 +9,8 @@ use Rattle.block.specs.Outcome.{Lent, Result}
 use Rattle.block.specs.declared.Answer.{Answer}
 use Rattle.block.specs.declared.Answer.TheVariants.{Cost, Count, Refused}
 use Rattle.prices.specs.Book.{Book}
-use Rattle.search_outcome.specs.Outcome.{Demanded}
-use Rattle.search_outcome.specs.declared.Search.{Search}
+use Rattle.searches.specs.Outcome.{Demanded}
+use Rattle.searches.specs.declared.Search.{Search}
 use Rattle.weights.specs.declared.Window.{Window}
 use Rattle.c_answers.specs.Told.{answer_code, cost_after, count_after}
 use Rattle.c_named.specs.Named.{reply_of, told}

@@ -1,8 +1,8 @@
 -- What an exported search returns, and what every lent variable and buffer holds afterwards. Assumes nothing.
 use Rattle.std.specs.Prelude.{ℕ, cond, eqb, leb, Float}
 use Rattle.block.specs.Outcome.{Lent, Result}
-use Rattle.search_outcome.specs.declared.Search.{Search}
-use Rattle.search_outcome.specs.declared.Search.TheVariants.{Greedy, Beam, Trellis, Unfactored}
+use Rattle.searches.specs.declared.Search.{Search}
+use Rattle.searches.specs.declared.Search.TheVariants.{Greedy, Beam, Trellis, Unfactored}
 use Rattle.c_answers.specs.Told.{answer_code, cost_after, count_after}
 
 -- the code, the caller's two variables, and the buffers

@@ -2,7 +2,7 @@
 ghost use Rattle.std.specs.Prelude.{◌≡◌};
 ghost use Rattle.c_named.specs.Named.{search_named};
 
-use search_outcome::Search;
+use searches::Search;
 
 // The code for a number that names no search.
 pub const NO_SEARCH: u32 = 17;

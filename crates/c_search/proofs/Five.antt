@@ -16,7 +16,7 @@ use Rattle.candidates.specs.Nearest.{is_ideal}
 use Rattle.candidates.specs.Candidates.{candidates_of, filled, filler, is_current}
 use Rattle.candidates.proofs.Laws.{candidates-listed, filled-length, every, every-at, within}
 use Rattle.candidates.proofs.Levels.{in-back}
-use Rattle.level_calls.specs.Levels.{candidates_reply, listed_reply}
+use Rattle.level_calls.specs.Levels.{candidates_reply, listed}
 use Rattle.answers.specs.declared.answer.Listed.{Listed}
 use Rattle.c_answers.specs.Told.{number_code, number_after, listed_code, levels_after, listed_count_after}
 
@@ -116,7 +116,7 @@ module _ (ideal : Float) (current : ℤ) (restore : Bool) where
   unfolding candidates_reply
   reply-five = go (is_ideal ideal) (is_current current) refl refl
     where
-      go : (i j : Bool) → is_ideal ideal ≡ i → is_current current ≡ j → length (listed_reply (i && j) (filled (filler current restore) (candidates_of ideal current restore))).levels ≡ 5
+      go : (i j : Bool) → is_ideal ideal ≡ i → is_current current ≡ j → length (listed (i && j) (filled (filler current restore) (candidates_of ideal current restore))).levels ≡ 5
       go true true e f = filled-length (filler current restore) (candidates_of ideal current restore) (candidates-listed ideal current restore (rw e tt) (rw f tt)).five
       go true false e f = refl
       go false j e f = refl
@@ -126,7 +126,7 @@ module _ (ideal : Float) (current : ℤ) (restore : Bool) where
   unfolding candidates_reply every filled
   reply-inside = go (is_ideal ideal) (is_current current) refl refl
     where
-      go : (i j : Bool) → is_ideal ideal ≡ i → is_current current ≡ j → T (every within (listed_reply (i && j) (filled (filler current restore) (candidates_of ideal current restore))).levels)
+      go : (i j : Bool) → is_ideal ideal ≡ i → is_current current ≡ j → T (every within (listed (i && j) (filled (filler current restore) (candidates_of ideal current restore))).levels)
       go true true e f =
           every_append within (candidates_of ideal current restore) (replicate (5 - length (candidates_of ideal current restore)) (filler current restore)) (candidates-listed ideal current restore (rw e tt) (rw f tt)).inside
           (every-same within (5 - length (candidates_of ideal current restore)) (filler current restore) (filler-inside restore (rw f tt)))

@@ -3,8 +3,8 @@ use Rattle.std.specs.Prelude.{ℕ, ◌≤◌, ◌≡◌, Float}
 use Rattle.block.specs.Block.{Block, covered}
 use Rattle.block.specs.Outcome.{Lent, Result}
 use Rattle.prices.specs.Book.{Book}
-use Rattle.search_outcome.specs.Outcome.{Demanded, search_outcome}
-use Rattle.search_outcome.specs.declared.Search.{Search}
+use Rattle.searches.specs.Outcome.{Demanded, search_outcome}
+use Rattle.searches.specs.declared.Search.{Search}
 use Rattle.weights.specs.Window.{window_of}
 use Rattle.c_named.specs.Named.{Reply, search_named, named_reply}
 

@@ -4,8 +4,8 @@ use Rattle.block.specs.Band.{half_width}
 use Rattle.block.specs.Block.{Block}
 use Rattle.block.specs.Outcome.{Lent, Result}
 use Rattle.prices.specs.Book.{Book}
-use Rattle.search_outcome.specs.Outcome.{Demanded}
-use Rattle.search_outcome.specs.declared.Search.{Search}
+use Rattle.searches.specs.Outcome.{Demanded}
+use Rattle.searches.specs.declared.Search.{Search}
 use Rattle.small.specs.Small.{check32, small_window, small_outcome}
 use Rattle.c_named.specs.Named.{Reply, reply_of, search_named, named_reply}
 

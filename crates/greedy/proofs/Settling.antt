@@ -61,7 +61,7 @@ module _ {p : Plan} {scan : List ℕ} {source inverse : List Float} {levels : Li
 pub planned-with : {b : Block} {p : Plan} → Planned b p → (x : List ℤ) → Planned (with_levels b x) p
 planned-with {b} w x = planned-lists b w b.scan b.source b.inverse x
 
-pub record SettledSoFar (p : Plan) (book : Book) (scan : List ℕ) (source inverse : List Float) (first levels : List ℤ) (counts : Counts) (i : ℕ) : Type 0 where
+pub record SoFar (p : Plan) (book : Book) (scan : List ℕ) (source inverse : List Float) (first levels : List ℤ) (counts : Counts) (i : ℕ) : Type 0 where
   pub upto : i ≤ p.window.length
   pub ready : Ready p scan source inverse levels (p.covered + i)
   pub later : counts.later ≡ count_from scan levels p.covered (p.covered + i)
@@ -70,7 +70,7 @@ pub record SettledSoFar (p : Plan) (book : Book) (scan : List ℕ) (source inver
 
 module _ {p : Plan} (book : Book) {scan : List ℕ} {source inverse : List Float} {first : List ℤ} where
   pub so-far-none : {counts : Counts} → Fitting p → Ready p scan source inverse first (64 * p.covered) → counts.later ≡ count_from scan first p.covered (p.covered + p.window.length)
-      → counts.total ≡ count_from scan first p.covered p.covered → SettledSoFar p book scan source inverse first first counts p.window.length
+      → counts.total ≡ count_from scan first p.covered p.covered → SoFar p book scan source inverse first first counts p.window.length
   so-far-none f r el et =
       record {
         upto = le_refl _;
@@ -80,7 +80,7 @@ module _ {p : Plan} (book : Book) {scan : List ℕ} {source inverse : List Float
         rest = λ b l w. ap (λ (x : List ℤ). settled_from p.window book p.window.length (with_levels b x)) l.levels_is;
       }
 
-  module _ {levels : List ℤ} {counts : Counts} {i : ℕ} (some : 0 < i) (s : SettledSoFar p book scan source inverse first levels counts i) where
+  module _ {levels : List ℤ} {counts : Counts} {i : ℕ} (some : 0 < i) (s : SoFar p book scan source inverse first levels counts i) where
     next : p.covered + (i - 1) + 1 ≡ p.covered + i
     next = omega arith
 
@@ -96,7 +96,7 @@ module _ {p : Plan} (book : Book) {scan : List ℕ} {source inverse : List Float
     pub so_far_more : {levels' : List ℤ} {counts' : Counts}
         → ((b : Block) → Lists b scan source inverse levels → Planned b p → levels' ≡ settled_at p.window book b (i - 1))
         → Ready p scan source inverse levels' (p.covered + (i - 1)) → counts'.later ≡ count_from scan levels' p.covered (p.covered + (i - 1)) → counts'.total ≡ count_from scan levels' p.covered p.covered
-        → SettledSoFar p book scan source inverse first levels' counts' (i - 1)
+        → SoFar p book scan source inverse first levels' counts' (i - 1)
     unfolding settled_from covered
     so_far_more {levels'} step r el et =
         let before : i ≡ suc (i - 1) = omega arith in
@@ -111,7 +111,7 @@ module _ {p : Plan} (book : Book) {scan : List ℕ} {source inverse : List Float
               ap (λ (x : List ℤ). settled_from p.window book (i - 1) (with_levels b x)) wrote ∙ old;
         }
 
-  pub so-far-all : {levels : List ℤ} {counts : Counts} {i : ℕ} → i ≤ 0 → SettledSoFar p book scan source inverse first levels counts i
+  pub so-far-all : {levels : List ℤ} {counts : Counts} {i : ℕ} → i ≤ 0 → SoFar p book scan source inverse first levels counts i
       → (b : Block) → Lists b scan source inverse first → Planned b p → levels ≡ greedy_levels p.window book b
   unfolding settled_from greedy_levels
   so-far-all {levels} {counts} {i} h s b l w =

@@ -145,7 +145,7 @@ pub fn cheapest(
     plan: Plan,
     place: Place,
     levels: &[i32; 5],
-    candidate_count: usize,
+    count: usize,
     i: usize,
     around: Around,
     current: i32,
@@ -153,10 +153,10 @@ pub fn cheapest(
     requires ready_value { book_refusal (book_in map.now configs.now symbols.now ready.now) ≡ 0 }
     requires coded { Coded plan }
     requires i_bound { (around.later + 1 + (plan.covered + i) ≤ 64 * plan.covered) × ((around.others < 64 * plan.covered) × (around.front ≤ 1)) }
-    requires usable { Usable (in_array candidate_count levels.now) }
+    requires usable { Usable (in_array count levels.now) }
     requires t { T (is_level current) }
     ensures value { (b : Block) → Planned b plan → place ≡ place_of b plan.log2 i
-        → result ≡ holder (cost_of (book_in map.now configs.now symbols.now ready.now) b i around.later around.others around.front around.run) (inf false) current (listed (in_array candidate_count levels.now)) }
+        → result ≡ holder (cost_of (book_in map.now configs.now symbols.now ready.now) b i around.later around.others around.front around.run) (inf false) current (listed (in_array count levels.now)) }
     ensures t_2 { T (is_level result) }
 {
     let mut best = Best {
@@ -164,7 +164,7 @@ pub fn cheapest(
         level: current,
     };
     let mut j = 0;
-    while j < candidate_count {
+    while j < count {
         let level = levels[j];
         let cost = candidate_cost(map, configs, symbols, ready, plan, place, i, around, level);
         best = best.consider(cost, level);

@@ -18,8 +18,8 @@ use Rattle.group_list.specs.Heads.{Head, covered}
 use Rattle.group_run.specs.Block.{Numbers, Room, lent_with, size, shape_of, settings_of, bias_of, block_at, searched, count_in}
 use Rattle.group_run.proofs.Outcomes.{count-within}
 use Rattle.prices.specs.Book.{Book}
-use Rattle.search_outcome.specs.Outcome.{search_outcome}
-use Rattle.search_outcome.specs.declared.Search.{Search}
+use Rattle.searches.specs.Outcome.{search_outcome}
+use Rattle.searches.specs.declared.Search.{Search}
 use Rattle.weights.specs.Window.{window_of}
 use Rattle.weights.specs.declared.Settings.{Settings}
 use Rattle.group_block.specs.Part.{part, in_place, numbers_from}

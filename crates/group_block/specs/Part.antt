@@ -6,7 +6,7 @@ use Rattle.group_cells.specs.Grid.{Grid}
 use Rattle.group_list.specs.Heads.{Head}
 use Rattle.group_run.specs.Block.{Numbers, Room, size, searched, settles, count_in}
 use Rattle.prices.specs.Book.{Book}
-use Rattle.search_outcome.specs.declared.Search.{Search}
+use Rattle.searches.specs.declared.Search.{Search}
 
 -- n numbers from `at` on
 abbrev pub part : {A : Type 0} → ℕ → ℕ → List A → List A

@@ -6,7 +6,7 @@ ghost use Rattle.block.specs.Block.{block_of, covered};
 ghost use Rattle.block.specs.Outcome.{lent_of, result_of};
 ghost use Rattle.prices.specs.Book.{book_in};
 ghost use Rattle.prices.specs.Checks.{book_refusal};
-ghost use Rattle.search_outcome.specs.Outcome.{search_outcome};
+ghost use Rattle.searches.specs.Outcome.{search_outcome};
 ghost use Rattle.group_list.specs.Heads.{head_at, blocks_in, PlacedAt};
 ghost use Rattle.group_run.specs.Block.{shape_of, settings_of, bias_of};
 ghost use Rattle.weights.specs.Window.{window_of};
@@ -14,7 +14,7 @@ ghost use Rattle.group_block.specs.Part.{part, in_place, Stepped};
 
 use bias::DequantBias;
 use block::{Answer, Shape};
-use search_outcome::Search;
+use searches::Search;
 use weights::Settings;
 
 // Searches the block whose numbers are the n from `at` on.

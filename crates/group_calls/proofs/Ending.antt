@@ -15,7 +15,7 @@ use Rattle.group_run.proofs.Main.{promised, refused-before, runs}
 use Rattle.prices.specs.Book.{Book}
 use Rattle.prices.specs.Checks.{book_refusal}
 use Rattle.prices.proofs.Passed.{listed, by-lists}
-use Rattle.search_outcome.specs.declared.Search.{Search}
+use Rattle.searches.specs.declared.Search.{Search}
 use Rattle.group_calls.specs.Ran.{Ran}
 
 module _ (book : Book) (words : List ℕ) (reals : List Float) where

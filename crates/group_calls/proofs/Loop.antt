@@ -15,7 +15,7 @@ use Rattle.group_cells.specs.Cells.{Counted}
 use Rattle.group_block.specs.Part.{numbers_from}
 use Rattle.group_list.specs.Heads.{Head, head_at, heads_from, heads_of, blocks_in}
 use Rattle.prices.specs.Book.{Book}
-use Rattle.search_outcome.specs.declared.Search.{Search}
+use Rattle.searches.specs.declared.Search.{Search}
 use Rattle.group_run.specs.Block.{Numbers, Room, room_of, lent_with, size, enough, rest, block_at, searched, settles, refusal_in}
 use Rattle.group_run.specs.Run.{Done, done_with, counted, Run, ended, followed, run}
 use Rattle.group_run.specs.declared.Group.TheVariants.{Settled, Stopped}

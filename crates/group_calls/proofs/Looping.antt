@@ -21,7 +21,7 @@ use Rattle.group_run.specs.Block.{Numbers, Room, room_of, lent_with, size, enoug
 use Rattle.group_run.specs.declared.Group.TheVariants.{Settled, Stopped}
 use Rattle.group_run.proofs.Running.{enough-of}
 use Rattle.prices.specs.Book.{Book}
-use Rattle.search_outcome.specs.declared.Search.{Search}
+use Rattle.searches.specs.declared.Search.{Search}
 use Rattle.group_calls.specs.Ran.{Ran}
 use Rattle.group_calls.proofs.Loop.{SoFar, so-far-none, so-far-all, so-far-short, so-far-stops, so_far_more}
 

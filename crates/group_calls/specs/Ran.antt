@@ -6,7 +6,7 @@ use Rattle.group_run.specs.Block.{Numbers, Room}
 use Rattle.group_run.specs.Run.{run}
 use Rattle.group_run.specs.declared.Group.{Group}
 use Rattle.prices.specs.Book.{Book}
-use Rattle.search_outcome.specs.declared.Search.{Search}
+use Rattle.searches.specs.declared.Search.{Search}
 
 pub record Ran (s : Search) (book : Book) (words : List ℕ) (reals : List Float) (g : Numbers) (room : Room) (answer : Group) (after : Lent) : Type 0 where
   pub answer_is : (run s book [] (heads_of words reals) g room).answer ≡ answer

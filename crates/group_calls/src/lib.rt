@@ -9,7 +9,7 @@ ghost use Rattle.prices.specs.Checks.{book_refusal};
 ghost use Rattle.group_calls.specs.Ran.{Ran};
 
 use group_run::Group;
-use search_outcome::Search;
+use searches::Search;
 
 // Check 8: whether n numbers are left of each of four lists, behind the first `at`.
 fn enough(at: usize, n: usize, scans: usize, sources: usize, inv_qms: usize, levels: usize) -> bool

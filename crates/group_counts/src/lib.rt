@@ -10,20 +10,12 @@ fn wide(x: u32) -> usize
     x as usize
 }
 
-// A word of block i.
-fn word_at(words: &[u32], i: usize, part: usize) -> usize
-    requires { (i < blocks_in words.now) × (part < 8) }
-    ensures { result ≡ get_or words.now (8 * i + part) 0 }
-{
-    wide(words[8 * i + part])
-}
-
 // How many numbers of each list are block i's.
 pub fn size_at(words: &[u32], i: usize) -> usize
     requires { (i < blocks_in words.now) × PlacedAt words.now i }
     ensures { result ≡ 64 * (get_or words.now (8 * i + 2) 0 * get_or words.now (8 * i + 3) 0) }
 {
-    64 * (word_at(words, i, 2) * word_at(words, i, 3))
+    64 * (wide(words[8 * i + 2]) * wide(words[8 * i + 3]))
 }
 
 // The count predicted for block i.
@@ -31,9 +23,9 @@ pub fn predicted_at(cells: &[u8], words: &[u32], i: usize) -> u8
     requires { (i < blocks_in words.now) × (PlacedAt words.now i × (length cells.now ≡ 3072)) }
     ensures { (reals : List Float) (done : List Counted) → Grid done cells.now → result ≡ predicted done (head_at words.now reals i) }
 {
-    let x = word_at(words, i, 0);
-    let y = word_at(words, i, 1);
-    let channel = word_at(words, i, 5);
+    let x = wide(words[8 * i]);
+    let y = wide(words[8 * i + 1]);
+    let channel = wide(words[8 * i + 5]);
     group_cells::predict_from_top_and_left(cells, channel, x, y)
 }
 
@@ -51,11 +43,11 @@ pub fn write_count(cells: &mut [u8], words: &[u32], i: usize, count: u32)
     requires count_bound { count ≤ 63 * (get_or words.now (8 * i + 2) 0 * get_or words.now (8 * i + 3) 0) }
     ensures { (reals : List Float) (done : List Counted) → Grid done cells.old → Grid (record { head = head_at words.now reals i; count = count } ∷ done) cells.new }
 {
-    let x = word_at(words, i, 0);
-    let y = word_at(words, i, 1);
-    let cx = word_at(words, i, 2);
-    let cy = word_at(words, i, 3);
-    let channel = word_at(words, i, 5);
+    let x = wide(words[8 * i]);
+    let y = wide(words[8 * i + 1]);
+    let cx = wide(words[8 * i + 2]);
+    let cy = wide(words[8 * i + 3]);
+    let channel = wide(words[8 * i + 5]);
     let value = per_block(count, cx * cy);
     group_cells::write_cells(cells, channel, x, y, cx, cy, value);
 }

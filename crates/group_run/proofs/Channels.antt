@@ -14,7 +14,7 @@ use Rattle.group_cells.proofs.Cells.{predicted-alone}
 use Rattle.group_list.specs.Channel.{of_channel}
 use Rattle.group_list.specs.Heads.{Head, covered}
 use Rattle.prices.specs.Book.{Book}
-use Rattle.search_outcome.specs.declared.Search.{Search}
+use Rattle.searches.specs.declared.Search.{Search}
 use Rattle.weights.specs.Window.{window_of}
 use Rattle.group_run.specs.Block.{Numbers, Room, room_of, lent_with, size, enough, rest, block_at, searched, settles, numbers_of}
 use Rattle.group_run.specs.Run.{Done, done_with, counted, run}
@@ -23,10 +23,10 @@ use Rattle.group_run.proofs.Outcomes.{lengths-kept, answers-alike}
 use Rattle.group_run.proofs.Running.{Enough, enough-of}
 
 pub same-sym : {r r' : Room} → SameLengths r r' → SameLengths r' r
-same-sym e = record { choices = sym e.choices; row_a = sym e.row_a; row_b = sym e.row_b }
+same-sym e = record { choices = sym e.choices; first = sym e.first; second = sym e.second }
 
 pub same-trans : {r r' r'' : Room} → SameLengths r r' → SameLengths r' r'' → SameLengths r r''
-same-trans e f = record { choices = e.choices ∙ f.choices; row_a = e.row_a ∙ f.row_a; row_b = e.row_b ∙ f.row_b }
+same-trans e f = record { choices = e.choices ∙ f.choices; first = e.first ∙ f.first; second = e.second ∙ f.second }
 
 -- ---- a block's numbers, with others behind them
 abbrev joined : Head → Numbers → Numbers → Numbers

@@ -18,7 +18,7 @@ use Rattle.group_list.proofs.Channel.{heads-pass, list-passes, heads-alone}
 use Rattle.laws.specs.Refusals.{first_refused}
 use Rattle.prices.specs.Book.{Book}
 use Rattle.prices.specs.Checks.{book_refusal}
-use Rattle.search_outcome.specs.declared.Search.{Search}
+use Rattle.searches.specs.declared.Search.{Search}
 use Rattle.group_run.specs.Block.{Numbers, Room, numbers_of}
 use Rattle.group_run.specs.Run.{Done, Run, ended, run, group_refusal, group_outcome}
 use Rattle.group_run.specs.Demand.{EachRuled, EachSmall, laid, settled_in, Left, SameLengths, done_of, Prefix, Alone, Unaltered, Promised}
@@ -113,7 +113,7 @@ take-prefix n xs ys p k = sym (ap (take n) p.1 ∙ take-append-le n xs p.0 k)
 pub unaltered : (s : Search) (book : Book) (words : List ℕ) (reals : List Float) (g : Numbers) (room : Room) → Unaltered s book words reals g room
 unaltered s book words reals g room channel words' reals' g' room' e f l n k k' =
     let one = in-channel s book words reals g room channel room' l in
-    let other = in-channel s book words' reals' g' room' channel room' (record { choices = refl; row_a = refl; row_b = refl }) in
+    let other = in-channel s book words' reals' g' room' channel room' (record { choices = refl; first = refl; second = refl }) in
     take-prefix n _ _ one k
     ∙ sym (take-prefix n _ _ (subst (λ (x : Numbers). Prefix (done_of channel (group_outcome s book words' reals' g' room').settled) (run s book [] (of_channel channel (heads_of words reals)) x room').settled) f (subst (λ (hs : List Head). Prefix (done_of channel (group_outcome s book words' reals' g' room').settled) (run s book [] hs (numbers_of channel (heads_of words' reals') g') room').settled) e other)) k')
 

@@ -22,11 +22,11 @@ use Rattle.prices.specs.Book.{Book}
 use Rattle.problem.proofs.Problem.{among-most}
 use Rattle.scan.specs.Scan.{put}
 use Rattle.scan.proofs.Through.{put-length}
-use Rattle.search_outcome.specs.Outcome.{Demanded, Promised, refusal_of, searched_outcome, search_outcome}
-use Rattle.search_outcome.specs.declared.Search.{Search}
-use Rattle.search_outcome.specs.declared.Search.TheVariants.{Greedy, Beam, Trellis, Unfactored}
-use Rattle.search_outcome.proofs.Results.{whole-promised}
-use Rattle.trellis_outcome.specs.Outcome as Banded
+use Rattle.searches.specs.Outcome.{Demanded, Promised, refusal_of, searched_outcome, search_outcome}
+use Rattle.searches.specs.declared.Search.{Search}
+use Rattle.searches.specs.declared.Search.TheVariants.{Greedy, Beam, Trellis, Unfactored}
+use Rattle.searches.proofs.Results.{whole-promised}
+use Rattle.trellis.specs.Outcome as Banded
 use Rattle.weights.specs.Window.{window_of}
 use Rattle.weights.specs.declared.Window.{Window}
 use Rattle.group_run.specs.Block.{room_of, count_in}
@@ -34,12 +34,12 @@ use Rattle.group_run.specs.Demand.{SameLengths}
 
 -- ---- the room
 same : (l : Lent) → SameLengths (room_of l) (room_of l)
-same l = record { choices = refl; row_a = refl; row_b = refl }
+same l = record { choices = refl; first = refl; second = refl }
 
 cleared-same : (l : Lent) → SameLengths (room_of l) (room_of (cleared l))
 unfolding cleared
 cleared-same l =
-    record { choices = sym (length-replicate (length l.choices) 255); row_a = sym (length-replicate (length l.row_a) (inf false)); row_b = sym (length-replicate (length l.row_b) (inf false)) }
+    record { choices = sym (length-replicate (length l.choices) 255); first = sym (length-replicate (length l.row_a) (inf false)); second = sym (length-replicate (length l.row_b) (inf false)) }
 
 module _ (w : ℕ) (v : Window) (book : Book) (b : Block) where
   -- of a block that passed its checks
@@ -69,7 +69,7 @@ module _ (w : ℕ) (v : Window) (book : Book) (b : Block) where
 
   refusal-alike : (s : Search) (l l' : Lent) → SameLengths (room_of l) (room_of l') → refusal_of w v s book b l ≡ refusal_of w v s book b l'
   unfolding refusal_of
-  refusal-alike s l l' e = rw (e.choices, e.row_a, e.row_b)
+  refusal-alike s l l' e = rw (e.choices, e.first, e.second)
 
   -- answer and levels go by them alone
   pub answers-alike : (s : Search) (l l' : Lent) → l.levels ≡ l'.levels → SameLengths (room_of l) (room_of l')
@@ -97,7 +97,7 @@ module _ (w : ℕ) (v : Window) (book : Book) (b : Block) (l : Lent) where
   searched-length : (s : Search) → length (searched_outcome w v s book b l).lent.levels ≡ length b.levels
   unfolding searched_outcome Banded.searched_outcome cleared Greedy.searched_outcome greedy_levels Beam.written Banded.written
   searched-length Greedy = greedy-length v book v.length b
-  searched-length Beam = written_either w v book b (finite (Beam.beam_cost (Beam.beam_problem v book b))) (Beam.beam_levels (Beam.beam_problem v book b))
+  searched-length Beam = written_either w v book b (finite (Beam.beam_cost (Beam.problem v book b))) (Beam.beam_levels (Beam.problem v book b))
   searched-length Trellis = written_either w v book b (finite (least_total (problem_of w v book b))) (least_levels (problem_of w v book b))
   searched-length Unfactored = written_either w v book b (finite (least_total (problem_of w v book b))) (least_levels (problem_of w v book b))
 
@@ -155,7 +155,7 @@ module _ (w : ℕ) (book : Book) (b : Block) (l : Lent) (own : l.levels ≡ b.le
   count-within Greedy =
       few (63 * covered b) _ (λ n e. rw ((meant Greedy).demanded.0 n e).1 (count_most b _)) (λ x n e. absurd (no-cost (eqb (refusal_of w v Greedy book b l) 0) _ _ _ l x n e))
   count-within Beam =
-      few (63 * covered b) _ (λ n e. absurd (no-count (eqb (refusal_of w v Beam book b l) 0) (finite (Beam.beam_cost (Beam.beam_problem v book b))) _ _ _ _ _ l n e))
+      few (63 * covered b) _ (λ n e. absurd (no-count (eqb (refusal_of w v Beam book b l) 0) (finite (Beam.beam_cost (Beam.problem v book b))) _ _ _ _ _ l n e))
       (λ x n e. rw ((meant Beam).demanded.1 x n e).count_is (count_most b _))
   count-within Trellis =
       few (63 * covered b) _ (λ n e. absurd (no-count (eqb (refusal_of w v Trellis book b l) 0) (finite (least_total (problem_of w v book b))) _ _ _ _ _ l n e))

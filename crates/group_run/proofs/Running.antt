@@ -20,8 +20,8 @@ use Rattle.group_list.specs.Heads.{Head, covered}
 use Rattle.group_list.proofs.Sides.{sides-of}
 use Rattle.prices.specs.Book.{Book}
 use Rattle.laws.proofs.Tests.{and_left, and_right}
-use Rattle.search_outcome.specs.Outcome.{Demanded, search_outcome}
-use Rattle.search_outcome.specs.declared.Search.{Search}
+use Rattle.searches.specs.Outcome.{Demanded, search_outcome}
+use Rattle.searches.specs.declared.Search.{Search}
 use Rattle.weights.specs.Window.{window_of}
 use Rattle.group_run.specs.Block.{Numbers, Room, room_of, lent_with, size, enough, rest, block_at, searched, settles, count_in, refusal_in}
 use Rattle.group_run.specs.Run.{Done, done_with, counted, Run, ended, followed, run}

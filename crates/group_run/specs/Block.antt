@@ -9,8 +9,8 @@ use Rattle.block.specs.declared.Shape.{Shape}
 use Rattle.group_cells.specs.Cells.{Counted, predicted}
 use Rattle.group_list.specs.Heads.{Head, covered}
 use Rattle.prices.specs.Book.{Book}
-use Rattle.search_outcome.specs.Outcome.{search_outcome}
-use Rattle.search_outcome.specs.declared.Search.{Search}
+use Rattle.searches.specs.Outcome.{search_outcome}
+use Rattle.searches.specs.declared.Search.{Search}
 use Rattle.weights.specs.Window.{window_of}
 use Rattle.weights.specs.declared.Settings.{Settings}
 

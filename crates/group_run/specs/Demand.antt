@@ -6,8 +6,8 @@ use Rattle.group_list.specs.Channel.{of_channel}
 use Rattle.group_list.specs.Checks.{whole_blocks}
 use Rattle.group_list.specs.Heads.{Head, covered, heads_of}
 use Rattle.prices.specs.Book.{Book}
-use Rattle.search_outcome.specs.Outcome.{Demanded}
-use Rattle.search_outcome.specs.declared.Search.{Search}
+use Rattle.searches.specs.Outcome.{Demanded}
+use Rattle.searches.specs.declared.Search.{Search}
 use Rattle.weights.specs.Window.{window_of}
 use Rattle.group_run.specs.Block.{Numbers, Room, room_of, lent_with, rest, block_at, searched, numbers_of, settles}
 use Rattle.group_run.specs.Run.{Done, Run, counted, group_outcome}
@@ -61,8 +61,8 @@ pub record Left (g : Numbers) (r : Run) : Type 0 where
 -- ---- channels
 pub record SameLengths (r r' : Room) : Type 0 where
   pub choices : length r.choices ≡ length r'.choices
-  pub row_a : length r.row_a ≡ length r'.row_a
-  pub row_b : length r.row_b ≡ length r'.row_b
+  pub first : length r.row_a ≡ length r'.row_a
+  pub second : length r.row_b ≡ length r'.row_b
 
 unfoldable pub done_of : ℕ → List Done → List Done
 done_of channel [] = []

@@ -8,7 +8,7 @@ use Rattle.group_list.specs.Checks.{list_refusal}
 use Rattle.group_list.specs.Heads.{Head, heads_of}
 use Rattle.prices.specs.Book.{Book}
 use Rattle.prices.specs.Checks.{book_refusal}
-use Rattle.search_outcome.specs.declared.Search.{Search}
+use Rattle.searches.specs.declared.Search.{Search}
 use Rattle.group_run.specs.Block.{Numbers, Room, room_of, lent_with, size, enough, rest, block_at, searched, settles, count_in, refusal_in}
 use Rattle.group_run.specs.declared.Group.{Group}
 use Rattle.group_run.specs.declared.Group.TheVariants.{Settled, Stopped}

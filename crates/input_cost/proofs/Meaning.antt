@@ -34,9 +34,9 @@ use Rattle.search_checks.specs.Checked.{Checked, Searched}
 use Rattle.search_checks.proofs.Checked.{own-lists}
 use Rattle.search_checks.proofs.Refusing.{no_rows, window-of}
 use Rattle.steps.specs.declared.reading.Plan.{Plan}
-use Rattle.trellis_outcome.specs.Demand.{LeastCost}
-use Rattle.trellis_outcome.specs.Outcome.{refusal, searched_outcome, banded_outcome}
-use Rattle.trellis_outcome.proofs.Demand.{least-answered}
+use Rattle.trellis.specs.Demand.{LeastCost}
+use Rattle.trellis.specs.Outcome.{refusal, searched_outcome, banded_outcome}
+use Rattle.trellis.proofs.Demand.{least-answered}
 use Rattle.weights.proofs.Lengths.{whole-window}
 use Rattle.weights.specs.Window.{window_for}
 use Rattle.weights.specs.declared.Window.{Window}

@@ -14,7 +14,7 @@ use Rattle.laws.specs.Refusals.{first_refused}
 use Rattle.least_cost.specs.Search.{whole_cost}
 use Rattle.prices.specs.Book.{Book}
 use Rattle.prices.specs.Checks.{book_refusal}
-use Rattle.trellis_outcome.specs.Outcome.{banded_outcome}
+use Rattle.trellis.specs.Outcome.{banded_outcome}
 use Rattle.weights.specs.Window.{window_of}
 use Rattle.weights.specs.declared.Window.{Window}
 

@@ -8,11 +8,11 @@ use Rattle.answers.specs.declared.answer.Listed.{Listed}
 use Rattle.answers.specs.Leaf.{outside}
 
 -- a list as it is answered
-abbrev pub listed_reply : Bool → Candidates → Listed
-listed_reply true found = record { answer = Value found.count; levels = found.levels }
-listed_reply false found = record { answer = Refused outside; levels = replicate 5 (pos 0) }
+abbrev pub listed : Bool → Candidates → Listed
+listed true found = record { answer = Value found.count; levels = found.levels }
+listed false found = record { answer = Refused outside; levels = replicate 5 (pos 0) }
 
 -- an ideal and a level within ±32,767
 unfoldable pub candidates_reply : Float → ℤ → Bool → Listed
 candidates_reply ideal current restore =
-    listed_reply (is_ideal ideal && is_current current) (filled (filler current restore) (candidates_of ideal current restore))
+    listed (is_ideal ideal && is_current current) (filled (filler current restore) (candidates_of ideal current restore))

@@ -1,2 +1,3 @@
 pub mod Dequant
+pub mod Weighing
 pub mod Levels

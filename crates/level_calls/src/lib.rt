@@ -1,3 +1,4 @@
-// The calls on levels: what a decoder restores from one, and which may be picked. `rdoq` passes them on.
+// The calls on levels: what a decoder restores from one, what its error weighs, and which may be picked. `rdoq` passes them on.
 pub mod dequant;
 pub mod levels;
+pub mod weighing;

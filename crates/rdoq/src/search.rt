@@ -4,6 +4,5 @@
 pub use beam::rdoq_block_beam;
 pub use greedy::rdoq_block_greedy;
 pub use input_cost::rdoq_input_cost;
-pub use search_outcome::Search;
-pub use searches::rdoq_block;
+pub use searches::{Search, rdoq_block};
 pub use trellis::rdoq_block_banded;

@@ -20,5 +20,5 @@ fill-whole v [] = refl
 fill-whole {A} v (x ∷ d) = ap (λ (t : List A). v ∷ t) (fill-whole v d)
 
 -- after the last
-pub all-filled : {A : Type 0} {s : List A} (n : ℕ) (v : A) (d : List A) → n ≤ length d → length d ≤ n → s ≡ replicate n v ++ drop n d → s ≡ replicate (length d) v
-all-filled {A} {s} n v d a b e = subst (λ (k : ℕ). s ≡ replicate k v ++ drop k d) (le_antisymm a b) e ∙ fill-whole v d
+pub filled : {A : Type 0} {s : List A} (n : ℕ) (v : A) (d : List A) → n ≤ length d → length d ≤ n → s ≡ replicate n v ++ drop n d → s ≡ replicate (length d) v
+filled {A} {s} n v d a b e = subst (λ (k : ℕ). s ≡ replicate k v ++ drop k d) (le_antisymm a b) e ∙ fill-whole v d

@@ -1,4 +1,3 @@
--- What the searches share once their checks have passed: `Checked` what they go by, `Start` what follows the window, `Best` the first least.
-pub mod Best
+-- What the searches share once their checks have passed: `Checked` what they go by, `Start` what follows the window.
 pub mod Checked
 pub mod Start

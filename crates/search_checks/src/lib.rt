@@ -1,5 +1,4 @@
-// What the searches share beside their steps: the checks, in order; where a search starts once they have passed; and the first least.
-pub mod best;
+// The checks of a search, in order, and where it starts once they have passed.
 pub mod start;
 
 ghost use Rattle.std.specs.Prelude.{◌≡◌, cond, ◌≤◌, ◌<◌};

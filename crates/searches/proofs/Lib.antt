@@ -1,1 +1,1 @@
-mod Accepting
+pub mod Results

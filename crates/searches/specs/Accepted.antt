@@ -6,8 +6,8 @@ use Rattle.block.specs.Outcome.{Lent}
 use Rattle.prices.specs.Book.{Book}
 use Rattle.search_checks.specs.Checked.{Accepted}
 use Rattle.weights.specs.declared.Window.{Window}
-use Rattle.search_outcome.specs.Outcome.{asked_by}
-use Rattle.search_outcome.specs.declared.Search.{Search}
+use Rattle.searches.specs.Outcome.{asked_by}
+use Rattle.searches.specs.declared.Search.{Search}
 
 pub record Searchable (w : ℕ) (v : Window) (search : Search) (book : Book) (b : Block) (l : Lent) : Type 0 where
   pub narrow : w ≤ 12

@@ -1,2 +1,3 @@
--- What one call over the searches goes by on the way. What it answers and leaves stands in `search_outcome`.
+-- One call over the searches: `Outcome` what it answers and leaves, and what that means; `Accepted` what it goes by on the way.
+pub mod Outcome
 pub mod Accepted

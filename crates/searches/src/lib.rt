@@ -6,13 +6,28 @@ ghost use Rattle.block.specs.Outcome.{lent_of, result_of};
 ghost use Rattle.prices.specs.Book.{book_of, book_in};
 ghost use Rattle.prices.specs.Checks.{book_refusal};
 ghost use Rattle.weights.specs.Window.{window_for};
-ghost use Rattle.search_outcome.specs.Outcome.{PromisedIn, Promised, asked_by, searched_outcome};
+ghost use Rattle.searches.specs.Outcome.{PromisedIn, Promised, asked_by, searched_outcome};
 ghost use Rattle.searches.specs.Accepted.{Searchable};
 
 use bias::DequantBias;
 use block::{Answer, Shape};
-use search_outcome::{Asked, Search};
 use weights::{SearchSettings, Settings};
+
+// Which search. The last two are one search by two walks.
+#[derive(Drop)]
+pub enum Search {
+    Greedy,
+    Beam,
+    Trellis,
+    Unfactored,
+}
+
+// The room that check 14 asks: choice bytes a window position, and costs in each row.
+#[derive(Drop)]
+pub struct Asked {
+    pub bytes: usize,
+    pub floats: usize,
+}
 
 // By either walk of the trellis.
 fn banded(width: u32) -> Asked

@@ -1,6 +1,6 @@
 -- A line of the context sheet (document 01), and what is printed for it.
 use Rattle.std.specs.Prelude.{ℕ, zero, suc, ◌+◌, Bool, true, false, ◌&&◌, List, [], ◌∷◌, ◌++◌, eqb, length, set, get_or}
-use Rattle.context_calls.specs.Contexts.{zero_density_reply}
+use Rattle.token_calls.specs.Contexts.{zero_density_reply}
 use Rattle.answers.specs.declared.answer.Number.{Number}
 use Rattle.answers.specs.declared.answer.Number.TheVariants.{Value, Refused}
 use Rattle.sheet.specs.Column.{space, digit_zero, minus, newline, column, column_value, is_column}

@@ -35,7 +35,7 @@ fn context_of(line: &[u8]) -> Number
     let remaining = column::column_value(line, 6);
     let k = column::column_value(line, 12);
     let prev = column::column_value(line, 18);
-    context_calls::contexts::zero_density_context(remaining, k, covered_blocks, prev)
+    token_calls::contexts::zero_density_context(remaining, k, covered_blocks, prev)
 }
 
 fn outside_char(i: usize) -> u8

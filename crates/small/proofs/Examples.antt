@@ -3,9 +3,9 @@ use Prim.Native.Nat.{◌*◌}
 use mathlib.Core.Path.{◌≡◌, refl}
 use mathlib.Core.List.{[], ◌∷◌, map}
 use Rattle.block.specs.Band.{half_width}
-use Rattle.search_outcome.specs.Outcome.{asked_by}
-use Rattle.search_outcome.specs.declared.Search.{Search}
-use Rattle.search_outcome.specs.declared.Search.TheVariants.{Greedy, Beam, Trellis, Unfactored}
+use Rattle.searches.specs.Outcome.{asked_by}
+use Rattle.searches.specs.declared.Search.{Search}
+use Rattle.searches.specs.declared.Search.TheVariants.{Greedy, Beam, Trellis, Unfactored}
 use Rattle.weights.specs.Window.{window_for}
 
 -- 32 positions; 20 of them, or all, may be restored

@@ -5,8 +5,8 @@ use Rattle.block.specs.Band.{half_width}
 use Rattle.block.specs.Block.{Block}
 use Rattle.block.specs.Outcome.{Lent, Result, refused}
 use Rattle.prices.specs.Book.{Book}
-use Rattle.search_outcome.specs.Outcome.{PromisedIn}
-use Rattle.search_outcome.specs.declared.Search.{Search}
+use Rattle.searches.specs.Outcome.{PromisedIn}
+use Rattle.searches.specs.declared.Search.{Search}
 use Rattle.small.specs.Small.{check32, small_window, small_outcome, Promised}
 
 module _ (search : Search) (book : Book) (b : Block) (l : Lent) where

@@ -5,8 +5,8 @@ use Rattle.block.specs.Band.{half_width}
 use Rattle.block.specs.Block.{Block, covered}
 use Rattle.block.specs.Outcome.{Lent, Result, RefusedKeeps, refused}
 use Rattle.prices.specs.Book.{Book}
-use Rattle.search_outcome.specs.Outcome.{Demanded, search_outcome}
-use Rattle.search_outcome.specs.declared.Search.{Search}
+use Rattle.searches.specs.Outcome.{Demanded, search_outcome}
+use Rattle.searches.specs.declared.Search.{Search}
 use Rattle.weights.specs.Window.{window_for}
 use Rattle.weights.specs.declared.Window.{Window}
 

@@ -8,7 +8,7 @@ ghost use Rattle.small.specs.Small.{Promised};
 
 use bias::DequantBias;
 use block::{Answer, Shape};
-use search_outcome::Search;
+use searches::Search;
 use weights::Settings;
 
 // The refusal of more than two covered blocks.

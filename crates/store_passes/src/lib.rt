@@ -54,26 +54,6 @@ pub fn end_of(rec: &[u64], count: usize) -> usize
     (rec[3 * last + 2] + rec[3 * last + 3]) as usize
 }
 
-// A run as the record has it.
-#[derive(Drop)]
-pub struct Recorded {
-    pub number: u64,
-    pub start: u64,
-    pub size: u64,
-}
-
-// Run i.
-pub fn run_at(rec: &[u64], i: usize) -> Recorded
-    requires { 3 * i + 3 < length rec.now }
-    ensures { (result.number ≡ get_or rec.now (3 * i + 1) 0) × ((result.start ≡ get_or rec.now (3 * i + 2) 0) × (result.size ≡ get_or rec.now (3 * i + 3) 0)) }
-{
-    Recorded {
-        number: rec[3 * i + 1],
-        start: rec[3 * i + 2],
-        size: rec[3 * i + 3],
-    }
-}
-
 // Writes run i.
 pub fn write_run(rec: &mut [u64], i: usize, number: u64, start: u64, size: u64)
     requires { 3 * i + 3 < length rec.old }
@@ -105,8 +85,10 @@ pub fn remove(rec: &mut [u64], count: usize, block: u64) -> usize
     let mut kept: usize = 0;
     let mut i = 0;
     while i < count {
-        let run = run_at(rec, i);
-        kept = keep_run(rec, kept, run.number, run.start, run.size, block);
+        let number = rec[3 * i + 1];
+        let start = rec[3 * i + 2];
+        let size = rec[3 * i + 3];
+        kept = keep_run(rec, kept, number, start, size, block);
         i += 1;
     }
     kept

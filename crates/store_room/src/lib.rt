@@ -37,10 +37,9 @@ pub fn compact(room: &mut [u64], rec: &mut [u64], count: usize) -> usize
     let mut top: usize = 0;
     let mut i = 0;
     while i < count {
-        let run = store_passes::run_at(rec, i);
-        let number = run.number;
-        let start = run.start as usize;
-        let size = run.size;
+        let number = rec[3 * i + 1];
+        let start = rec[3 * i + 2] as usize;
+        let size = rec[3 * i + 3];
         move_down(room, start, size as usize, top);
         store_passes::write_run(rec, i, number, top as u64, size);
         top += size as usize;

@@ -2,7 +2,7 @@
 use Rattle.std.specs.Prelude.{ℕ, ◌+◌, ◌-◌, ◌<◌, ◌≡◌, cond, List, [], ◌∷◌, eqb, get_or, replicate}
 use Rattle.coding.specs.Coding.{Coding}
 use Rattle.tallying.specs.Uses.{Tokens, used_at, extra_used}
-use Rattle.tallying.specs.Tally.{Tally, Outcome, tally_of, tabled, many, added, removed}
+use Rattle.tallying.specs.Tally.{Tally, Outcome, tally_of, listed, many, added, removed}
 
 -- A call brings its own code and tokens.
 pub data Call : Type 0 where
@@ -19,9 +19,9 @@ unfoldable pub after : Tally → List Call → Tally
 after y [] = y
 after y (c ∷ cs) = after (done c y).tally cs
 
-unfoldable pub answered_calls : Tally → List Call → List (Call × ℕ)
-answered_calls y [] = []
-answered_calls y (c ∷ cs) = (c, (done c y).reply) ∷ answered_calls (done c y).tally cs
+unfoldable pub answered : Tally → List Call → List (Call × ℕ)
+answered y [] = []
+answered y (c ∷ cs) = (c, (done c y).reply) ∷ answered (done c y).tally cs
 
 -- a tally of n counts, all 0
 abbrev pub zeros : ℕ → Tally
@@ -53,14 +53,14 @@ summed f (x ∷ xs) = cond (eqb x.1 0) (f x.0) 0 + summed f xs
 -- the tally of n counts that these make
 unfoldable pub afresh : ℕ → List (Call × ℕ) → Tally
 afresh n xs =
-    tally_of (tabled (λ s. summed (λ c. brought_by c s) xs - summed (λ c. taken_by c s) xs) 0 n) (summed extra_brought xs - summed extra_taken xs)
+    tally_of (listed (λ s. summed (λ c. brought_by c s) xs - summed (λ c. taken_by c s) xs) 0 n) (summed extra_brought xs - summed extra_taken xs)
 
 -- What any run of calls from a zero tally of n counts gives.
 pub record AsSums (n : ℕ) (calls : List Call) : Type 0 where
   -- each count, with what was taken, is what was brought
-  pub counts : (s : ℕ) → s < n → get_or (after (zeros n) calls).counts s 0 + summed (λ c. taken_by c s) (answered_calls (zeros n) calls) ≡ summed (λ c. brought_by c s) (answered_calls (zeros n) calls)
+  pub counts : (s : ℕ) → s < n → get_or (after (zeros n) calls).counts s 0 + summed (λ c. taken_by c s) (answered (zeros n) calls) ≡ summed (λ c. brought_by c s) (answered (zeros n) calls)
   -- so is the total
-  pub extra : (after (zeros n) calls).extra + summed extra_taken (answered_calls (zeros n) calls) ≡ summed extra_brought (answered_calls (zeros n) calls)
+  pub extra : (after (zeros n) calls).extra + summed extra_taken (answered (zeros n) calls) ≡ summed extra_brought (answered (zeros n) calls)
   -- and so the tally is the one that the sums make: by it every further call is answered, 27 and 28 included
-  pub tally : after (zeros n) calls ≡ afresh n (answered_calls (zeros n) calls)
-  pub replies : (next : Call) → (done next (after (zeros n) calls)).reply ≡ (done next (afresh n (answered_calls (zeros n) calls))).reply
+  pub tally : after (zeros n) calls ≡ afresh n (answered (zeros n) calls)
+  pub replies : (next : Call) → (done next (after (zeros n) calls)).reply ≡ (done next (afresh n (answered (zeros n) calls))).reply

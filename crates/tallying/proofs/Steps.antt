@@ -12,30 +12,30 @@ use lib.Dec.{leb}
 use lib.ListN.{length, get_or, set}
 use Rattle.prices.specs.Book.{cluster_symbol}
 use Rattle.tallying.specs.Uses.{Tokens, cluster_at, place_at, extra_at, used_at, extra_used}
-use Rattle.tallying.specs.Tally.{tabled, tally_of, many}
+use Rattle.tallying.specs.Tally.{listed, tally_of, many}
 use Rattle.tallying.specs.Counting.{Countable, has_room, to_add, rest_to_add, to_remove}
-use Rattle.tallying.proofs.Lists.{tabled-length, tabled-is, tabled-at, tabled-set}
+use Rattle.tallying.proofs.Lists.{listed-length, listed_is, listed_at, listed-set}
 use Rattle.tallying.proofs.Uses.{used-here, used-else, extra-next}
 
 module _ (map configs : List ℕ) (t : Tokens) (counts : List ℕ) where
   -- the counts after the first n tokens, each of which does `op` to its count
   abbrev pub counted : (ℕ → ℕ → ℕ) → ℕ → List ℕ
-  counted op n = tabled (λ s. op (get_or counts s 0) (used_at map configs t n s)) 0 (length counts)
+  counted op n = listed (λ s. op (get_or counts s 0) (used_at map configs t n s)) 0 (length counts)
 
   pub counted_none : (op : ℕ → ℕ → ℕ) → ((x : ℕ) → op x 0 ≡ x) → counts ≡ counted op 0
   unfolding used_at
-  counted_none op same = sym (tabled-is (λ s. op (get_or counts s 0) 0) (length counts) counts refl (λ i h. same (get_or counts i 0)))
+  counted_none op same = sym (listed_is (λ s. op (get_or counts s 0) 0) (length counts) counts refl (λ i h. same (get_or counts i 0)))
 
   pub counted_next : (op : ℕ → ℕ → ℕ) (n p x : ℕ) → p ≡ place_at map configs t n → p < length counts → x ≡ op (get_or counts p 0) (suc (used_at map configs t n p))
       → set (counted op n) p x ≡ counted op (suc n)
   counted_next op n p x e h is =
       let used : used_at map configs t (suc n) p ≡ suc (used_at map configs t n p) = rw e (used-here map configs t n) in
       ap (set (counted op n) p) (is ∙ ap (op (get_or counts p 0)) (sym used))
-      ∙ tabled-set (λ s. op (get_or counts s 0) (used_at map configs t n s)) (λ s. op (get_or counts s 0) (used_at map configs t (suc n) s)) (length counts) p h
+      ∙ listed-set (λ s. op (get_or counts s 0) (used_at map configs t n s)) (λ s. op (get_or counts s 0) (used_at map configs t (suc n) s)) (length counts) p h
       (λ i d. ap (op (get_or counts i 0)) (used-else map configs t n i (λ k. d (k ∙ sym e))))
 
   pub counted-at : (op : ℕ → ℕ → ℕ) (n p : ℕ) → p < length counts → get_or (counted op n) p 0 ≡ op (get_or counts p 0) (used_at map configs t n p)
-  counted-at op n p h = tabled-at (λ s. op (get_or counts s 0) (used_at map configs t n s)) (length counts) p h
+  counted-at op n p h = listed_at (λ s. op (get_or counts s 0) (used_at map configs t n s)) (length counts) p h
 
   -- ---- whether token n has room beside those before it
   module _ (extra n p e : ℕ) (place : p ≡ place_at map configs t n) (more : e ≡ extra_at map configs t n) where
@@ -98,7 +98,7 @@ module _ (op : ℕ → ℕ → ℕ) (room : ℕ → ℕ) (rest : ℕ) (map confi
 
   module _ {held : List ℕ} {total i : ℕ} (G : Going op room rest map configs t n counts extra held total i) where
     pub going-length : length held ≡ length counts
-    going-length = ap length G.counts_are ∙ tabled-length (λ s. op (get_or counts s 0) (used_at map configs t i s)) 0 (length counts)
+    going-length = ap length G.counts_are ∙ listed-length (λ s. op (get_or counts s 0) (used_at map configs t i s)) 0 (length counts)
 
     pub going-at : (p : ℕ) → p < length counts → get_or held p 0 ≡ op (get_or counts p 0) (used_at map configs t i p)
     going-at p h = ap (λ (l : List ℕ). get_or l p 0) G.counts_are ∙ counted-at map configs t counts op i p h

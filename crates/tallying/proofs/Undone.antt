@@ -9,10 +9,10 @@ use borrow.Author.Tests.{le-leb, ltb-true, ltb-false}
 use lib.Dec.{leb, ltb}
 use lib.ListN.{length, get_or}
 use Rattle.tallying.specs.Uses.{Tokens, place_at, used_at, extra_used}
-use Rattle.tallying.specs.Tally.{Tally, tally_of, tabled, plus, minus, many}
+use Rattle.tallying.specs.Tally.{Tally, tally_of, listed, plus, minus, many}
 use Rattle.tallying.specs.Counting.{Countable, has_room, to_add, rest_to_add, to_remove, SomeAdded, SomeRemoved}
 use Rattle.tallying.proofs.Entries.{plus-sized, minus-sized, plus-at, minus-at}
-use Rattle.tallying.proofs.Lists.{tabled-is}
+use Rattle.tallying.proofs.Lists.{listed_is}
 use Rattle.tallying.proofs.Steps.{in-places}
 use Rattle.tallying.proofs.Uses.{used-some, used-within, extra-within, place-room, extra-room}
 
@@ -39,7 +39,7 @@ module _ (map configs : List ℕ) (t : Tokens) (counts : List ℕ) (extra : ℕ)
   unfolding minus
   minus_plus =
       ap₂ (λ (c : List ℕ) (e : ℕ). tally_of c e)
-      (tabled-is (λ s. get_or (plus map configs t n y).counts s 0 - u s) (length (plus map configs t n y).counts) counts (sym (plus-sized map configs t n y))
+      (listed_is (λ s. get_or (plus map configs t n y).counts s 0 - u s) (length (plus map configs t n y).counts) counts (sym (plus-sized map configs t n y))
       (λ i h. omega (arith, plus-at map configs t n y i (omega (arith, h, plus-sized map configs t n y)))))
       plus-extra
 
@@ -83,7 +83,7 @@ module _ (map configs : List ℕ) (t : Tokens) (counts : List ℕ) (extra : ℕ)
     unfolding plus
     plus-minus =
         ap₂ (λ (c : List ℕ) (e : ℕ). tally_of c e)
-        (tabled-is (λ s. get_or (minus map configs t n y).counts s 0 + u s) (length (minus map configs t n y).counts) counts (sym (minus-sized map configs t n y))
+        (listed_is (λ s. get_or (minus map configs t n y).counts s 0 + u s) (length (minus map configs t n y).counts) counts (sym (minus-sized map configs t n y))
         (λ i h. omega (arith, minus-at map configs t n y i (omega (arith, h, minus-sized map configs t n y)), at_most i)))
         minus-extra
 

@@ -41,16 +41,16 @@ unfoldable pub tally_checks : Coding → Tokens → Tally → Bool × ℕ → Li
 tally_checks k t y own = shared_checks k t (length y.counts) ++ own ∷ []
 
 -- n numbers, f at each place from a on
-unfoldable pub tabled : (ℕ → ℕ) → ℕ → ℕ → List ℕ
-tabled f a zero = []
-tabled f a (suc n) = f a ∷ tabled f (suc a) n
+unfoldable pub listed : (ℕ → ℕ) → ℕ → ℕ → List ℕ
+listed f a zero = []
+listed f a (suc n) = f a ∷ listed f (suc a) n
 
 -- The tally with the first n tokens added, and with them taken out.
 unfoldable pub plus : List ℕ → List ℕ → Tokens → ℕ → Tally → Tally
-plus map configs t n y = tally_of (tabled (λ s. get_or y.counts s 0 + used_at map configs t n s) 0 (length y.counts)) (y.extra + extra_used map configs t n)
+plus map configs t n y = tally_of (listed (λ s. get_or y.counts s 0 + used_at map configs t n s) 0 (length y.counts)) (y.extra + extra_used map configs t n)
 
 unfoldable pub minus : List ℕ → List ℕ → Tokens → ℕ → Tally → Tally
-minus map configs t n y = tally_of (tabled (λ s. get_or y.counts s 0 - used_at map configs t n s) 0 (length y.counts)) (y.extra - extra_used map configs t n)
+minus map configs t n y = tally_of (listed (λ s. get_or y.counts s 0 - used_at map configs t n s) 0 (length y.counts)) (y.extra - extra_used map configs t n)
 
 -- What a call answers, 0 or the number of its refusal, and the tally afterwards: a refused call leaves it as it was.
 pub record Outcome : Type 0 where

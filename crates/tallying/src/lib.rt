@@ -1,10 +1,10 @@
 // Use of symbols in a batch: counts by cluster and symbol, and the total of extra bits, as the Rust's `AdaptiveRate::add` counts them. A block's tokens are added,
 // and taken out when the block is searched again.
-ghost use Rattle.std.specs.Prelude.{◌≡◌, ◌&&◌, ◌+◌, ◌*◌, ◌≤◌, ◌<◌, min, leb, length, get_or};
+ghost use Rattle.std.specs.Prelude.{◌≡◌, ◌&&◌, ◌+◌, ◌*◌, ◌≤◌, min, leb, length, get_or};
 ghost use Rattle.coding.specs.Coding.{Coded, coding_of};
 ghost use Rattle.laws.specs.Refusals.{first_refused};
 ghost use Rattle.prices.specs.Book.{cluster_symbol, cluster_extra};
-ghost use Rattle.tallying.specs.Uses.{tokens_of, place_at, extra_at};
+ghost use Rattle.tallying.specs.Uses.{tokens_of};
 ghost use Rattle.tallying.specs.Tally.{tally_of, are_tokens, shared_checks};
 ghost use Rattle.tallying.specs.Counting.{Countable, SomeAdded, SomeRemoved};
 
@@ -37,17 +37,6 @@ fn use_of(map: &[u8], configs: &[u8], context: u32, value: u32) -> Use
     }
 }
 
-// The same of token i.
-fn use_at(map: &[u8], configs: &[u8], contexts: &[u32], values: &[u32], i: usize) -> Use
-    requires coded { Coded map.now configs.now }
-    requires i_in_bounds { (i < length contexts.now) × (i < length values.now) }
-    requires i_bound { (get_or contexts.now i 0 ≤ 14849) × (get_or values.now i 0 ≤ 131071) }
-    ensures place_value { result.place ≡ place_at map.now configs.now (tokens_of contexts.now values.now) i }
-    ensures extra_value { result.extra ≡ extra_at map.now configs.now (tokens_of contexts.now values.now) i }
-{
-    use_of(map, configs, contexts[i], values[i])
-}
-
 // How many tokens were counted, and the total of extra bits then.
 #[derive(Drop)]
 pub struct Counted {
@@ -72,7 +61,7 @@ pub fn add_some(
     let mut total = extra;
     let mut i = 0;
     while i < n {
-        let token = use_at(map, configs, contexts, values, i);
+        let token = use_of(map, configs, contexts[i], values[i]);
         let place = token.place;
         let count = counts[place];
         if count == u32::MAX {
@@ -114,7 +103,7 @@ pub fn remove_some(
     let mut total = extra;
     let mut i = 0;
     while i < n {
-        let token = use_at(map, configs, contexts, values, i);
+        let token = use_of(map, configs, contexts[i], values[i]);
         let place = token.place;
         let count = counts[place];
         if count == 0 {

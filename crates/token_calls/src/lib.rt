@@ -1,2 +1,3 @@
-// The calls on tokens: a level as a number, a number as a symbol with extra bits. `rdoq` passes them on.
+// The calls on tokens: a level as a number, a number as a symbol with extra bits, and the contexts. `rdoq` passes them on.
+pub mod contexts;
 pub mod tokens;

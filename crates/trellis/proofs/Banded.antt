@@ -23,9 +23,9 @@ use Rattle.weights.specs.Window.{window_for}
 use Rattle.weights.specs.declared.Window.{Window}
 use Rattle.weights.proofs.Lengths.{whole-window}
 use Rattle.trellis.specs.Walk.{Roomy, FoundIn, Done}
-use Rattle.trellis_outcome.specs.Outcome.{answered, written, searched_outcome, refusal, banded_outcome}
+use Rattle.trellis.specs.Outcome.{answered, written, searched_outcome, refusal, banded_outcome}
 use Rattle.trellis.specs.declared.search.Found.{Found}
-use Rattle.trellis_outcome.specs.Demand.{PromisedIn, Promised}
+use Rattle.trellis.specs.Demand.{PromisedIn, Promised}
 
 module _ (w : ℕ) (v : Window) (book : Book) (b : Block) (l : Lent) where
   -- refused by a check
@@ -56,7 +56,7 @@ module _ (w : ℕ) (v : Window) (book : Book) (b : Block) (l : Lent) where
 pub roomy_of : (w : ℕ) (v : Window) (choices : List ℕ) (row_a row_b : List Float) {s : ℕ} → s ≡ choice_bytes w → enough_room s (2 * s) v.length (length choices) (length row_a) (length row_b) ≡ true → Roomy w v choices row_a row_b
 roomy_of w v choices row_a row_b {s} is e =
     let r = room_of (choice_bytes w) (states w) v.length (length choices) (length row_a) (length row_b) (rw is at e) in
-    record { row_a = r.0; row_b = r.1.0; choices_long = r.1.1 }
+    record { first = r.0; second = r.1.0; choices_long = r.1.1 }
 
 pub room-kept : {w : ℕ} {v x : Window} {choices : List ℕ} {row_a row_b : List Float} → x ≡ v → Roomy w v choices row_a row_b → Roomy w x choices row_a row_b
 room-kept {w} {v} {x} {choices} {row_a} {row_b} e R = subst⁻¹ (λ (y : Window). Roomy w y choices row_a row_b) e R

@@ -30,7 +30,7 @@ use Rattle.steps.proofs.Zero.{handed-back, level-back}
 use Rattle.steps.specs.Plan.{Planned, Lists, Offered, Usable, listed}
 use Rattle.steps.specs.declared.reading.Plan.{Plan}
 use Rattle.steps.specs.declared.reading.Offer.{Offer}
-use Rattle.trellis_table.specs.Rows.{lowest_count, Rowable}
+use Rattle.trellis_table.specs.Rows.{least_count, Rowable}
 use Rattle.trellis.specs.Walk.{Walkable, walked}
 use Rattle.trellis_table.specs.declared.position.Counts.{Counts}
 use Rattle.trellis_table.proofs.Picks.{pick-among, pick-cheap}
@@ -39,8 +39,8 @@ use Rattle.trellis_table.proofs.Steps.{priced-cons, within-counts, narrow, past-
 pub here-room : (n i len long : ℕ) → i < len → n * len ≤ long → n * i + n ≤ long
 here-room n i len long h k = le_trans (le_of_eq (sym (mul-suc n i))) (le_trans (mul-le-mul_left n h) k)
 
-low-few : (hw a b : ℕ) → a ≤ 65536 → b ≤ 65536 → lowest_count hw a b ≤ 65536
-unfolding lowest_count
+low-few : (hw a b : ℕ) → a ≤ 65536 → b ≤ 65536 → least_count hw a b ≤ 65536
+unfolding least_count
 low-few hw a b h k = omega arith
 
 -- the walk has written the levels of the positions before i, and stands at a state of finite cost
@@ -91,12 +91,12 @@ module _ {hw : ℕ} {scan : List ℕ} {source inverse : List Float} {levels₀ :
       after-now e = omega (arith, counted, W.after_is)
 
     -- ---- where the choice stands
-    module _ {after' low : ℕ} (A : after' ≡ input_remaining w.searched.block (covered w.searched.block + suc i)) (l : low ≡ lowest_count hw past after') where
-      low-is : low ≡ lowest_count hw (past_window plan.window w.searched.block) (input_remaining w.searched.block (covered w.searched.block + suc i))
-      low-is = l ∙ ap₂ (lowest_count hw) w.past_is A
+    module _ {after' low : ℕ} (A : after' ≡ input_remaining w.searched.block (covered w.searched.block + suc i)) (l : low ≡ least_count hw past after') where
+      low-is : low ≡ least_count hw (past_window plan.window w.searched.block) (input_remaining w.searched.block (covered w.searched.block + suc i))
+      low-is = l ∙ ap₂ (least_count hw) w.past_is A
 
       counts : Counts
-      counts = record { lowest = low; highest = min (input_remaining w.searched.block (covered w.searched.block + suc i) + hw) (past_window plan.window w.searched.block + (plan.window.length - 1 - i)) + 1 }
+      counts = record { least = low; most = min (input_remaining w.searched.block (covered w.searched.block + suc i) + hw) (past_window plan.window w.searched.block + (plan.window.length - 1 - i)) + 1 }
 
       pub state-in-row : (low ≤ left) × (left ≤ low + (2 * hw + 1))
       unfolding counts
@@ -128,7 +128,7 @@ module _ {hw : ℕ} {scan : List ℕ} {source inverse : List Float} {levels₀ :
 
     -- ---- one turn of the loop
     module _ {offer : Offer} {array : List ℤ} (S : (b' : Block) → Lists b' scan source inverse levels → Planned b' plan → Offered plan.window b' i offer array) (U : Usable (in_array offer.count array))
-        {n low idx : ℕ} (N : n ≡ nz (to_z w32 (of_z w32 offer.level))) (l : low ≡ lowest_count hw past (after - n)) (x : get_or (unpacked choices) (2 * (choice_bytes hw * i) + (2 * (left - low) + prev)) 0 ≤ 14 → idx ≡ get_or (unpacked choices) (2 * (choice_bytes hw * i) + (2 * (left - low) + prev)) 0) where
+        {n low idx : ℕ} (N : n ≡ nz (to_z w32 (of_z w32 offer.level))) (l : low ≡ least_count hw past (after - n)) (x : get_or (unpacked choices) (2 * (choice_bytes hw * i) + (2 * (left - low) + prev)) 0 ≤ 14 → idx ≡ get_or (unpacked choices) (2 * (choice_bytes hw * i) + (2 * (left - low) + prev)) 0) where
       read-level : n ≡ nz offer.level
       read-level = N ∙ ap nz (handed-back _ _ (offer-level w.searched _ W.prefix h S) (level-current w.searched.checked i h) ∙ sym (offer-level w.searched _ W.prefix h S))
 
@@ -177,7 +177,7 @@ module _ {hw : ℕ} {scan : List ℕ} {source inverse : List Float} {levels₀ :
     input-some S N = rw (N ∙ ap nz (handed-back _ _ (offer-level w.searched _ W.prefix h S) (level-current w.searched.checked i h) ∙ sym (offer-level w.searched _ W.prefix h S))) (after-some S)
 
     pub state-here : {offer : Offer} {array : List ℤ} → ((b' : Block) → Lists b' scan source inverse levels → Planned b' plan → Offered plan.window b' i offer array) → {n low : ℕ} → n ≡ nz (to_z w32 (of_z w32 offer.level))
-        → low ≡ lowest_count hw past (after - n) → (low ≤ left) × (left ≤ low + (2 * hw + 1))
+        → low ≡ least_count hw past (after - n) → (low ≤ left) × (left ≤ low + (2 * hw + 1))
     state-here S N l = state-in-row (after-now S (ap (λ (m : ℕ). after - m) (N ∙ ap nz (handed-back _ _ (offer-level w.searched _ W.prefix h S) (level-current w.searched.checked i h) ∙ sym (offer-level w.searched _ W.prefix h S))))) l
 
     pub left-few : left ≤ 131072

@@ -31,7 +31,7 @@ use Rattle.trellis_table.specs.Rows.{RowAt, Rowed, FirstRow, TailFor, TailRow}
 use Rattle.trellis_table.specs.declared.position.Step.{Step}
 use Rattle.weights.specs.declared.Window.{Window}
 use Rattle.trellis.specs.Walk.{walked, Walkable, Done}
-use Rattle.trellis_outcome.specs.Outcome.{answered, written}
+use Rattle.trellis.specs.Outcome.{answered, written}
 use Rattle.trellis.specs.declared.search.Found.{Found}
 
 pub still-long : {k m n : ℕ} → m ≡ n → k ≤ n → k ≤ m

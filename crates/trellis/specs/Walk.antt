@@ -15,8 +15,8 @@ use Rattle.trellis.specs.declared.search.Found.{Found}
 
 -- room for a search, as check 14 asks it
 pub record Roomy (width : ℕ) (v : Window) (choices : List ℕ) (row_a row_b : List Float) : Type 0 where
-  pub row_a : states width ≤ length row_a
-  pub row_b : states width ≤ length row_b
+  pub first : states width ≤ length row_a
+  pub second : states width ≤ length row_b
   pub choices_long : choice_bytes width * v.length ≤ length choices
 
 -- what the walk goes by: rows and choices that are done, and a count of finite cost

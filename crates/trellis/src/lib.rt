@@ -9,8 +9,8 @@ ghost use Rattle.block.specs.Outcome.{lent_of, result_of};
 ghost use Rattle.prices.specs.Book.{book_of, book_in};
 ghost use Rattle.search_checks.specs.Checked.{Accepted};
 ghost use Rattle.weights.specs.Window.{window_for};
-ghost use Rattle.trellis_outcome.specs.Demand.{Promised};
-ghost use Rattle.trellis_outcome.specs.Outcome.{searched_outcome};
+ghost use Rattle.trellis.specs.Demand.{Promised};
+ghost use Rattle.trellis.specs.Outcome.{searched_outcome};
 ghost use Rattle.trellis.specs.Walk.{Roomy};
 
 use bias::DequantBias;

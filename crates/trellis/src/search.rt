@@ -5,10 +5,10 @@ ghost use Rattle.block.specs.Checks.{choice_bytes, states};
 ghost use Rattle.prices.specs.Book.{Book, book_in};
 ghost use Rattle.search_checks.specs.Checked.{Searched};
 ghost use Rattle.search_checks.specs.Start.{Starts};
-ghost use Rattle.trellis_table.specs.Rows.{TailRow, RoomKept};
+ghost use Rattle.trellis_table.specs.Rows.{TailRow, Kept};
 ghost use Rattle.weights.specs.declared.Window.{Window};
 ghost use Rattle.trellis.specs.Walk.{FoundIn, Done};
-ghost use Rattle.trellis_outcome.specs.Outcome.{answered, written};
+ghost use Rattle.trellis.specs.Outcome.{answered, written};
 
 use crate::walk;
 use block::Answer;
@@ -90,7 +90,7 @@ pub(crate) fn search(
 ) -> Found
     requires width_bound { (width ≤ 12) × Searched (book_in map.now configs.now symbols.now ready.now) scan.now source.now inv_qm.now levels.now plan }
     requires width_in_bounds { (states width ≤ length row_a.old) × ((states width ≤ length row_b.old) × (choice_bytes width * plan.window.length ≤ length choices.old)) }
-    ensures room_kept { RoomKept row_a.old row_a.new row_b.old row_b.new choices.old choices.new }
+    ensures kept { Kept row_a.old row_a.new row_b.old row_b.new choices.old choices.new }
     ensures found_in { (s : Searched (book_in map.now configs.now symbols.now ready.now) scan.now source.now inv_qm.now levels.now plan) → FoundIn width plan.window (book_in map.now configs.now symbols.now ready.now) s.block choices.new result }
 {
     let start = start::start_of(map, configs, symbols, ready, plan, scan, levels);
@@ -101,11 +101,11 @@ pub(crate) fn search(
         row_b, choices, width,
     );
     let step = last.step;
-    let live = exchange::live_row(row_a, row_b, last.in_row_a);
+    let live = exchange::live_row(row_a, row_b, last.in_first);
     let best = count::best_count(map, configs, symbols, ready, plan, live, step.counts);
     Found {
         cost: best.cost,
-        count: best.holder,
+        count: best.count,
         past,
         nonzeros: step.after,
     }

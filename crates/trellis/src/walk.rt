@@ -13,16 +13,16 @@ use trellis_table::position;
 fn choice_at(
     choices: &[u8],
     i: usize,
-    lowest: usize,
+    least: usize,
     left: usize,
     prev: usize,
     width: usize,
 ) -> usize
     requires i_bound { (i < 1024) × ((left ≤ 131072) × (choice_bytes width * i + choice_bytes width ≤ length choices.now)) }
-    requires lowest_le_left { (lowest ≤ left) × ((left ≤ lowest + (2 * width + 1)) × ((prev ≤ 1) × (width ≤ 12))) }
-    ensures { let choice = get_or (unpacked choices.now) (2 * (choice_bytes width * i) + (2 * (left - lowest) + prev)) 0 in choice ≤ 14 → result ≡ choice }
+    requires least_le_left { (least ≤ left) × ((left ≤ least + (2 * width + 1)) × ((prev ≤ 1) × (width ≤ 12))) }
+    ensures { let choice = get_or (unpacked choices.now) (2 * (choice_bytes width * i) + (2 * (left - least) + prev)) 0 in choice ≤ 14 → result ≡ choice }
 {
-    half_bytes::half(choices, (2 * width + 2) * i + (left - lowest), prev) as usize
+    half_bytes::half(choices, (2 * width + 2) * i + (left - least), prev) as usize
 }
 
 // `nonzeros` counts the input's from the first position on, `count` those that the walk leaves.
@@ -50,8 +50,8 @@ pub(crate) fn write_levels(
     for i in 0..window.length {
         let offer = plan.offer(scan, source, inv_qm, levels, i, &mut offered);
         after -= steps::nonzero(offer.level);
-        let lowest = position::lowest_count(past, after, width);
-        let level = offered[choice_at(choices, i, lowest, left, prev, width)];
+        let least = position::least_count(past, after, width);
+        let level = offered[choice_at(choices, i, least, left, prev, width)];
         steps::write_level(scan, levels, covered + i, level);
         prev = steps::nonzero(level);
         left -= prev;

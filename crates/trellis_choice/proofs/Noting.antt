@@ -104,17 +104,17 @@ partly-noted {g} {h} {levels} {j} {xs} {ys} {l} {m} {q} {x} {y} room few same p 
     (partly_more room few (p ∙ ap g same) (r ∙ ap h same) w)
 
 -- where 0 is listed, it stands somewhere
-pub record ZeroStands (levels : List ℤ) : Type 0 where
+pub record Stands (levels : List ℤ) : Type 0 where
   pub place : ℕ
   pub below : place < length levels
   pub zero : nz (get_or levels place (pos 0)) ≡ 0
 
-stands : (levels : List ℤ) → has_zero levels ≡ true → ZeroStands levels
+stands : (levels : List ℤ) → has_zero levels ≡ true → Stands levels
 unfolding has_zero
 stands [] e = absurd (true≢false (sym e))
 stands (q ∷ qs) e = go (eqb (nz q) 0) refl (λ t. stands qs t) e
   where
-    go : (b : Bool) → eqb (nz q) 0 ≡ b → (has_zero qs ≡ true → ZeroStands qs) → b || has_zero qs ≡ true → ZeroStands (q ∷ qs)
+    go : (b : Bool) → eqb (nz q) 0 ≡ b → (has_zero qs ≡ true → Stands qs) → b || has_zero qs ≡ true → Stands (q ∷ qs)
     go true t later f = record { place = 0; below = suc-le-suc zero-le; zero = eqb-true (nz q) 0 t }
     go false t later f = let s = later f in record { place = suc s.place; below = suc-le-suc s.below; zero = s.zero }
 

@@ -31,17 +31,17 @@ fn ties(level: i32, local: f32, tail: f32, cost: f32) -> bool
 // The first nonzero candidate whose cost with the tail is `cost`, else `other`.
 fn first_tied(
     levels: &[i32; 5],
-    candidate_count: usize,
+    count: usize,
     local: &[f32; 5],
     tail: f32,
     cost: f32,
     other: u8,
 ) -> u8
-    requires { Usable (in_array candidate_count levels.now) }
-    ensures { (g : ℤ → Float) → Each g (listed (in_array candidate_count levels.now)) local.now → get_or (listed (in_array candidate_count levels.now)) result (pos 0) ≡ first_equal (with g tail) cost (get_or (listed (in_array candidate_count levels.now)) other (pos 0)) (nonzeros (listed (in_array candidate_count levels.now))) }
+    requires { Usable (in_array count levels.now) }
+    ensures { (g : ℤ → Float) → Each g (listed (in_array count levels.now)) local.now → get_or (listed (in_array count levels.now)) result (pos 0) ≡ first_equal (with g tail) cost (get_or (listed (in_array count levels.now)) other (pos 0)) (nonzeros (listed (in_array count levels.now))) }
 {
     let mut j = 0;
-    while j < candidate_count {
+    while j < count {
         if ties(levels[j], local[j], tail, cost) {
             return j as u8;
         }
@@ -51,13 +51,13 @@ fn first_tied(
 }
 
 // The index of 0 among the candidates, or 255.
-pub fn zero_index(levels: &[i32; 5], candidate_count: usize) -> u8
-    requires { Usable (in_array candidate_count levels.now) }
-    ensures zero_at { ZeroAt (listed (in_array candidate_count levels.now)) result }
-    ensures value { has_zero (listed (in_array candidate_count levels.now)) ≡ false → result ≡ 255 }
+pub fn zero_index(levels: &[i32; 5], count: usize) -> u8
+    requires { Usable (in_array count levels.now) }
+    ensures zero_at { ZeroAt (listed (in_array count levels.now)) result }
+    ensures value { has_zero (listed (in_array count levels.now)) ≡ false → result ≡ 255 }
 {
     let mut j = 0;
-    while j < candidate_count {
+    while j < count {
         if levels[j] == 0 {
             return j as u8;
         }
@@ -70,21 +70,21 @@ pub fn zero_index(levels: &[i32; 5], candidate_count: usize) -> u8
 // infinite sum always ties with what the least took the place of, so that only ties need the test.
 fn nonzero_choice(
     levels: &[i32; 5],
-    candidate_count: usize,
+    count: usize,
     local: &[f32; 5],
     least: Least,
     tail: f32,
     cost: f32,
 ) -> u8
-    requires { Usable (in_array candidate_count levels.now) }
-    ensures pos_value { (g : ℤ → Float) → Each g (listed (in_array candidate_count levels.now)) local.now → FirstLeast g (listed (in_array candidate_count levels.now)) least → ((c : ℤ) → Memᴰ c (listed (in_array candidate_count levels.now)) → T (is_cost (g c)))
-        → T (is_cost tail) → cost ≡ add binary32 least.cost tail → T (finite cost) → get_or (listed (in_array candidate_count levels.now)) result (pos 0) ≡ holder (with g tail) (inf false) (pos 0) (nonzeros (listed (in_array candidate_count levels.now))) }
-    ensures value { (g : ℤ → Float) → FirstLeast g (listed (in_array candidate_count levels.now)) least → ((c : ℤ) → Memᴰ c (listed (in_array candidate_count levels.now)) → T (is_cost (g c)))
+    requires { Usable (in_array count levels.now) }
+    ensures pos_value { (g : ℤ → Float) → Each g (listed (in_array count levels.now)) local.now → FirstLeast g (listed (in_array count levels.now)) least → ((c : ℤ) → Memᴰ c (listed (in_array count levels.now)) → T (is_cost (g c)))
+        → T (is_cost tail) → cost ≡ add binary32 least.cost tail → T (finite cost) → get_or (listed (in_array count levels.now)) result (pos 0) ≡ holder (with g tail) (inf false) (pos 0) (nonzeros (listed (in_array count levels.now))) }
+    ensures value { (g : ℤ → Float) → FirstLeast g (listed (in_array count levels.now)) least → ((c : ℤ) → Memᴰ c (listed (in_array count levels.now)) → T (is_cost (g c)))
         → T (is_cost tail) → cost ≡ add binary32 least.cost tail → T (not (finite cost)) → result ≡ 255 }
 {
     if least.before + tail == cost {
         if cost < costs::infinity() {
-            return first_tied(levels, candidate_count, local, tail, cost, least.choice);
+            return first_tied(levels, count, local, tail, cost, least.choice);
         }
         return 255;
     }
@@ -105,7 +105,7 @@ fn with_tail(local: f32, tail: f32) -> f32
 // The least cost of a state, and its candidate's index where that is finite, else 255. `zero` is the local cost of 0 and `zero_index` its index.
 pub fn choose(
     levels: &[i32; 5],
-    candidate_count: usize,
+    count: usize,
     local: &[f32; 5],
     least: Least,
     zero: f32,
@@ -113,9 +113,9 @@ pub fn choose(
     nonzero_tail: f32,
     zero_tail: f32,
 ) -> Chosen
-    requires { Usable (in_array candidate_count levels.now) }
-    ensures { (g : ℤ → Float) → Known g (listed (in_array candidate_count levels.now)) local.now least zero → ZeroAt (listed (in_array candidate_count levels.now)) zero_index → T (is_cost nonzero_tail) → T (is_cost zero_tail)
-        → (has_zero (listed (in_array candidate_count levels.now)) ≡ false → zero_tail ≡ inf false) → Settled g nonzero_tail zero_tail (listed (in_array candidate_count levels.now)) result }
+    requires { Usable (in_array count levels.now) }
+    ensures { (g : ℤ → Float) → Known g (listed (in_array count levels.now)) local.now least zero → ZeroAt (listed (in_array count levels.now)) zero_index → T (is_cost nonzero_tail) → T (is_cost zero_tail)
+        → (has_zero (listed (in_array count levels.now)) ≡ false → zero_tail ≡ inf false) → Settled g nonzero_tail zero_tail (listed (in_array count levels.now)) result }
 {
     let cost = least.cost + nonzero_tail;
     let zero_cost = with_tail(zero, zero_tail);
@@ -127,6 +127,6 @@ pub fn choose(
     }
     Chosen {
         cost,
-        choice: nonzero_choice(levels, candidate_count, local, least, nonzero_tail, cost),
+        choice: nonzero_choice(levels, count, local, least, nonzero_tail, cost),
     }
 }

@@ -93,7 +93,7 @@ pub fn locals_in(
     ready: &[f32],
     place: Place,
     levels: &[i32; 5],
-    candidate_count: usize,
+    count: usize,
     distortion: &[f32; 5],
     context: usize,
     first: &mut [f32; 5],
@@ -101,17 +101,17 @@ pub fn locals_in(
 ) -> Locals
     requires ready_value { book_refusal (book_in map.now configs.now symbols.now ready.now) ≡ 0 }
     requires context_bound { context + 1 < 14850 }
-    requires usable { Usable (in_array candidate_count levels.now) }
-    requires each { Each (distortion_at place) (listed (in_array candidate_count levels.now)) distortion.now }
+    requires usable { Usable (in_array count levels.now) }
+    requires each { Each (distortion_at place) (listed (in_array count levels.now)) distortion.now }
     requires first_len { (length first.old ≡ 5) × (length second.old ≡ 5) }
     ensures located { Located (local_in (book_in map.now configs.now symbols.now ready.now) place context 0)
         (local_in (book_in map.now configs.now symbols.now ready.now) place context 1)
-        (listed (in_array candidate_count levels.now)) first.new second.new result }
+        (listed (in_array count levels.now)) first.new second.new result }
     ensures first_len_2 { (length first.new ≡ 5) × (length second.new ≡ 5) }
 {
     let mut locals = Locals::none();
     let mut j = 0;
-    while j < candidate_count {
+    while j < count {
         let level = levels[j];
         let pair = place.local_pair(map, configs, symbols, ready, context, level, distortion[j]);
         first[j] = pair.first;

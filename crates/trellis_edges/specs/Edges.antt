@@ -4,15 +4,13 @@ use Rattle.std.specs.Prelude.{ℕ, ◌+◌, ◌-◌, ◌*◌, ◌≤◌, ◌<◌
 use Rattle.std.specs.Float.{nan, inf}
 use Rattle.std.specs.Float.Ieee.{lt}
 use Rattle.std.specs.Float.Ieee.Scale.{finite}
-use Rattle.candidates.specs.Candidates.{in_array}
 use Rattle.costs.specs.Cost.{cost}
 use Rattle.least_cost.specs.Search.{holder, nonzeros}
 use Rattle.prices.specs.Book.{Book}
-use Rattle.steps.specs.Place.{distortion_at, local_at}
+use Rattle.steps.specs.Place.{local_at}
 use Rattle.steps.specs.declared.Place.{Place}
 use Rattle.trellis_choice.specs.Chosen.{with, nonzero_cost, zero_cost}
-use Rattle.trellis_choice.specs.Locals.{listed, Each}
-use Rattle.trellis_row.specs.Row.{nonzero_tail, zero_tail, Workable}
+use Rattle.trellis_row.specs.Row.{nonzero_tail, zero_tail}
 use Rattle.trellis_row.specs.declared.row.Span.{Span}
 
 -- of an edge's cost x and the cost v that a state has, the lesser; the choice goes with it
@@ -42,25 +40,17 @@ pub record Held (g : ℤ → Float) (x z : Float) (levels ns zs : List ℤ) (v :
   pub below : T (finite v) → choice < length levels
   pub none : T (not (finite v)) → choice ≡ 255
 
--- the state of count r for `prev` p, where it stands in a row whose first count is `lowest`
+-- the state of count r for `prev` p, where it stands in a row whose first count is `least`
 abbrev pub StateIs : Book → Place → List ℤ → List Float → Span → ℕ → ℕ → List Float → List ℕ → ℕ → ℕ → List ℤ → List ℤ → Type 0
-StateIs book x levels next s lowest at row choices r p ns zs =
-    Held (local_at book x r p) (nonzero_tail next s r) (zero_tail levels next s r) levels ns zs (get_or row (2 * (r - lowest) + p) nan) (get_or choices (at + (2 * (r - lowest) + p)) 0)
+StateIs book x levels next s least at row choices r p ns zs =
+    Held (local_at book x r p) (nonzero_tail next s r) (zero_tail levels next s r) levels ns zs (get_or row (2 * (r - least) + p) nan) (get_or choices (at + (2 * (r - least) + p)) 0)
 
 -- all edges from counts below n were tried, and of those from n the first j
-pub record Tried (book : Book) (x : Place) (levels : List ℤ) (next : List Float) (s : Span) (lowest highest at n j : ℕ) (row : List Float) (choices : List ℕ) : Type 0 where
-  pub done : (r p : ℕ) → lowest ≤ r → r ≤ highest → p ≤ 1 → r < n → StateIs book x levels next s lowest at row choices r p levels levels
-  pub here : (p : ℕ) → lowest ≤ n → n ≤ highest → p ≤ 1 → StateIs book x levels next s lowest at row choices n p levels (take j levels)
-  pub next_one : (p : ℕ) → lowest ≤ n + 1 → n + 1 ≤ highest → p ≤ 1 → StateIs book x levels next s lowest at row choices (n + 1) p (take j levels) []
-  pub above : (r p : ℕ) → lowest ≤ r → r ≤ highest → p ≤ 1 → n + 1 < r → StateIs book x levels next s lowest at row choices r p [] []
-
--- what an edge is tried from: some of the levels are candidates, the j-th among them, with their distortions; and the row as the edges before it left it
-pub record EdgeFor (book : Book) (x : Place) (levels : List ℤ) (distortion next : List Float) (s : Span) (lowest highest at n j : ℕ) (row : List Float) (choices : List ℕ) : Type 0 where
-  pub candidate_count : ℕ
-  pub workable : Workable book x (in_array candidate_count levels) next s highest
-  pub distortions : Each (distortion_at x) (listed (in_array candidate_count levels)) distortion
-  pub taken : j < candidate_count
-  pub tried : Tried book x (listed (in_array candidate_count levels)) next s lowest highest at n j row choices
+pub record Tried (book : Book) (x : Place) (levels : List ℤ) (next : List Float) (s : Span) (least most at n j : ℕ) (row : List Float) (choices : List ℕ) : Type 0 where
+  pub done : (r p : ℕ) → least ≤ r → r ≤ most → p ≤ 1 → r < n → StateIs book x levels next s least at row choices r p levels levels
+  pub here : (p : ℕ) → least ≤ n → n ≤ most → p ≤ 1 → StateIs book x levels next s least at row choices n p levels (take j levels)
+  pub next_one : (p : ℕ) → least ≤ n + 1 → n + 1 ≤ most → p ≤ 1 → StateIs book x levels next s least at row choices (n + 1) p (take j levels) []
+  pub above : (r p : ℕ) → least ≤ r → r ≤ most → p ≤ 1 → n + 1 < r → StateIs book x levels next s least at row choices r p [] []
 
 -- n states at +infinity, their choices from `at` on
 pub record Cleared (at n : ℕ) (row : List Float) (choices : List ℕ) : Type 0 where

@@ -8,7 +8,7 @@ ghost use Rattle.prices.specs.Book.{book_in};
 ghost use Rattle.steps.specs.Place.{distortion_at};
 ghost use Rattle.trellis_choice.specs.Locals.{listed, Each};
 ghost use Rattle.trellis_row.specs.Row.{RowIs, Elsewhere, Workable};
-ghost use Rattle.trellis_edges.specs.Edges.{lesser, choice_of, Updated, Tried, EdgeFor, Cleared};
+ghost use Rattle.trellis_edges.specs.Edges.{lesser, choice_of, Updated, Tried, Cleared};
 
 use prices::Pair;
 use steps::Place;
@@ -64,39 +64,41 @@ fn try_edge(
     ready: &[f32],
     place: Place,
     levels: &[i32; 5],
+    count: usize,
     distortion: &[f32; 5],
     next: &[f32],
     span: Span,
     current: &mut [f32],
     choices: &mut [u8],
     at: usize,
-    lowest: usize,
-    highest: usize,
+    least: usize,
+    most: usize,
     n: usize,
     j: usize,
 )
-    requires edge_for { EdgeFor (book_in map.now configs.now symbols.now ready.now) place levels.now distortion.now next.now span lowest highest (2 * at) n j current.old (unpacked choices.old) }
-    requires lowest_le_highest { (lowest ≤ highest) × ((2 * (highest - lowest) + 1 < length current.old) × (2 * at + 2 * (highest - lowest) + 1 < length (unpacked choices.old))) }
-    requires n_le_highest { n ≤ highest }
+    requires workable { Workable (book_in map.now configs.now symbols.now ready.now) place (in_array count levels.now) next.now span most }
+    requires each { Each (distortion_at place) (listed (in_array count levels.now)) distortion.now }
+    requires least_le_most { (least ≤ most) × ((2 * (most - least) + 1 < length current.old) × (2 * at + 2 * (most - least) + 1 < length (unpacked choices.old))) }
+    requires n_le_most { (n ≤ most) × (j < count) }
+    requires tried { Tried (book_in map.now configs.now symbols.now ready.now) place (listed (in_array count levels.now)) next.now span least most (2 * at) n j current.old (unpacked choices.old) }
     ensures current_len_unchanged { length current.new ≡ length current.old }
-    ensures elsewhere { Elsewhere (2 * at) (2 * (highest + 1 - lowest)) (unpacked choices.old) (unpacked choices.new) }
-    ensures tried { (e : EdgeFor (book_in map.now configs.now symbols.now ready.now) place levels.now distortion.now next.now span lowest highest (2 * at) n j current.old (unpacked choices.old))
-        → Tried (book_in map.now configs.now symbols.now ready.now) place (listed (in_array e.candidate_count levels.now)) next.now span lowest highest (2 * at) n (j + 1) current.new (unpacked choices.new) }
+    ensures elsewhere { Elsewhere (2 * at) (2 * (most + 1 - least)) (unpacked choices.old) (unpacked choices.new) }
+    ensures tried_2 { Tried (book_in map.now configs.now symbols.now ready.now) place (listed (in_array count levels.now)) next.now span least most (2 * at) n (j + 1) current.new (unpacked choices.new) }
 {
     let level = levels[j];
     let nonzero = steps::nonzero(level);
     let r = n + nonzero;
-    if r < lowest {
+    if r < least {
         return;
     }
-    if highest < r {
+    if most < r {
         return;
     }
     let tail = row::tail_at(next, span, n, nonzero);
     if tail < costs::infinity() {
         let context = place.context(r);
         let local = place.local_pair(map, configs, symbols, ready, context, level, distortion[j]);
-        update_pair(local, tail, j as u8, current, choices, r - lowest, at);
+        update_pair(local, tail, j as u8, current, choices, r - least, at);
     }
 }
 
@@ -108,44 +110,44 @@ fn edges_from(
     ready: &[f32],
     place: Place,
     levels: &[i32; 5],
-    candidate_count: usize,
+    count: usize,
     distortion: &[f32; 5],
     next: &[f32],
     span: Span,
     current: &mut [f32],
     choices: &mut [u8],
     at: usize,
-    lowest: usize,
-    highest: usize,
+    least: usize,
+    most: usize,
     n: usize,
 )
-    requires workable { Workable (book_in map.now configs.now symbols.now ready.now) place (in_array candidate_count levels.now) next.now span highest }
-    requires each { Each (distortion_at place) (listed (in_array candidate_count levels.now)) distortion.now }
-    requires lowest_le_highest { (lowest ≤ highest) × ((2 * (highest - lowest) + 1 < length current.old) × (2 * at + 2 * (highest - lowest) + 1 < length (unpacked choices.old))) }
-    requires n_le_highest { n ≤ highest }
-    requires tried { Tried (book_in map.now configs.now symbols.now ready.now) place (listed (in_array candidate_count levels.now)) next.now span lowest highest (2 * at) n 0 current.old (unpacked choices.old) }
+    requires workable { Workable (book_in map.now configs.now symbols.now ready.now) place (in_array count levels.now) next.now span most }
+    requires each { Each (distortion_at place) (listed (in_array count levels.now)) distortion.now }
+    requires least_le_most { (least ≤ most) × ((2 * (most - least) + 1 < length current.old) × (2 * at + 2 * (most - least) + 1 < length (unpacked choices.old))) }
+    requires n_le_most { n ≤ most }
+    requires tried { Tried (book_in map.now configs.now symbols.now ready.now) place (listed (in_array count levels.now)) next.now span least most (2 * at) n 0 current.old (unpacked choices.old) }
     ensures current_len_unchanged { length current.new ≡ length current.old }
-    ensures elsewhere { Elsewhere (2 * at) (2 * (highest + 1 - lowest)) (unpacked choices.old) (unpacked choices.new) }
-    ensures tried_2 { Tried (book_in map.now configs.now symbols.now ready.now) place (listed (in_array candidate_count levels.now)) next.now span lowest highest (2 * at) (n + 1) 0 current.new (unpacked choices.new) }
+    ensures elsewhere { Elsewhere (2 * at) (2 * (most + 1 - least)) (unpacked choices.old) (unpacked choices.new) }
+    ensures tried_2 { Tried (book_in map.now configs.now symbols.now ready.now) place (listed (in_array count levels.now)) next.now span least most (2 * at) (n + 1) 0 current.new (unpacked choices.new) }
 {
     let mut j = 0;
-    while j < candidate_count {
+    while j < count {
         try_edge(
-            map, configs, symbols, ready, place, levels, distortion, next, span, current, choices,
-            at, lowest, highest, n, j,
+            map, configs, symbols, ready, place, levels, count, distortion, next, span, current,
+            choices, at, least, most, n, j,
         );
         j += 1;
     }
 }
 
 // The last count whose edges may lead into the row.
-fn last_count(span: Span, highest: usize) -> usize
-    ensures { (result ≤ highest) × ((n : ℕ) → result < n → n ≤ highest → span.upto < n) }
+fn last_count(span: Span, most: usize) -> usize
+    ensures { (result ≤ most) × ((n : ℕ) → result < n → n ≤ most → span.upto < n) }
 {
-    if span.upto < highest {
+    if span.upto < most {
         return span.upto;
     }
-    highest
+    most
 }
 
 // All edges of the row, whose states are at +infinity.
@@ -156,44 +158,30 @@ fn all_edges(
     ready: &[f32],
     place: Place,
     levels: &[i32; 5],
-    candidate_count: usize,
+    count: usize,
     distortion: &[f32; 5],
     next: &[f32],
     span: Span,
     current: &mut [f32],
     choices: &mut [u8],
     at: usize,
-    lowest: usize,
-    highest: usize,
+    least: usize,
+    most: usize,
 )
-    requires workable { Workable (book_in map.now configs.now symbols.now ready.now) place (in_array candidate_count levels.now) next.now span highest }
-    requires each { Each (distortion_at place) (listed (in_array candidate_count levels.now)) distortion.now }
-    requires lowest_le_highest { (lowest ≤ highest) × ((2 * (highest - lowest) + 1 < length current.old) × (2 * at + 2 * (highest - lowest) + 1 < length (unpacked choices.old))) }
-    requires cleared { Cleared (2 * at) (2 * (highest + 1 - lowest)) current.old (unpacked choices.old) }
+    requires workable { Workable (book_in map.now configs.now symbols.now ready.now) place (in_array count levels.now) next.now span most }
+    requires each { Each (distortion_at place) (listed (in_array count levels.now)) distortion.now }
+    requires least_le_most { (least ≤ most) × ((2 * (most - least) + 1 < length current.old) × (2 * at + 2 * (most - least) + 1 < length (unpacked choices.old))) }
+    requires cleared { Cleared (2 * at) (2 * (most + 1 - least)) current.old (unpacked choices.old) }
     ensures current_len_unchanged { length current.new ≡ length current.old }
-    ensures elsewhere { Elsewhere (2 * at) (2 * (highest + 1 - lowest)) (unpacked choices.old) (unpacked choices.new) }
-    ensures row_is { RowIs (book_in map.now configs.now symbols.now ready.now) place (listed (in_array candidate_count levels.now)) next.now span lowest (2 * at) (2 * (highest + 1 - lowest)) current.new (unpacked choices.new) }
+    ensures elsewhere { Elsewhere (2 * at) (2 * (most + 1 - least)) (unpacked choices.old) (unpacked choices.new) }
+    ensures row_is { RowIs (book_in map.now configs.now symbols.now ready.now) place (listed (in_array count levels.now)) next.now span least (2 * at) (2 * (most + 1 - least)) current.new (unpacked choices.new) }
 {
-    let end = last_count(span, highest);
+    let end = last_count(span, most);
     let mut n = span.from;
     while n <= end {
         edges_from(
-            map,
-            configs,
-            symbols,
-            ready,
-            place,
-            levels,
-            candidate_count,
-            distortion,
-            next,
-            span,
-            current,
-            choices,
-            at,
-            lowest,
-            highest,
-            n,
+            map, configs, symbols, ready, place, levels, count, distortion, next, span, current,
+            choices, at, least, most, n,
         );
         n += 1;
     }
@@ -213,7 +201,7 @@ fn clear(current: &mut [f32], choices: &mut [u8], at: usize, n: usize)
     }
 }
 
-// The states of the counts from `lowest` to `highest`: their costs from the front of `current`, their choices from byte `at` on.
+// The states of the counts from `least` to `most`: their costs from the front of `current`, their choices from byte `at` on.
 pub fn fill_row(
     map: &[u8],
     configs: &[u8],
@@ -221,24 +209,24 @@ pub fn fill_row(
     ready: &[f32],
     place: Place,
     levels: &[i32; 5],
-    candidate_count: usize,
+    count: usize,
     next: &[f32],
     span: Span,
     current: &mut [f32],
     choices: &mut [u8],
     at: usize,
-    lowest: usize,
-    highest: usize,
+    least: usize,
+    most: usize,
 )
-    requires workable { Workable (book_in map.now configs.now symbols.now ready.now) place (in_array candidate_count levels.now) next.now span highest }
-    requires lowest_le_highest { (lowest ≤ highest) × ((2 * (highest - lowest) + 1 < length current.old) × (2 * at + 2 * (highest - lowest) + 1 < length (unpacked choices.old))) }
+    requires workable { Workable (book_in map.now configs.now symbols.now ready.now) place (in_array count levels.now) next.now span most }
+    requires least_le_most { (least ≤ most) × ((2 * (most - least) + 1 < length current.old) × (2 * at + 2 * (most - least) + 1 < length (unpacked choices.old))) }
     ensures current_len_unchanged { length current.new ≡ length current.old }
-    ensures elsewhere { Elsewhere (2 * at) (2 * (highest + 1 - lowest)) (unpacked choices.old) (unpacked choices.new) }
-    ensures row_is { RowIs (book_in map.now configs.now symbols.now ready.now) place (listed (in_array candidate_count levels.now)) next.now span lowest (2 * at) (2 * (highest + 1 - lowest)) current.new (unpacked choices.new) }
+    ensures elsewhere { Elsewhere (2 * at) (2 * (most + 1 - least)) (unpacked choices.old) (unpacked choices.new) }
+    ensures row_is { RowIs (book_in map.now configs.now symbols.now ready.now) place (listed (in_array count levels.now)) next.now span least (2 * at) (2 * (most + 1 - least)) current.new (unpacked choices.new) }
 {
     let mut distortion = [0.0f32; 5];
-    steps::reading::distortions(place, levels, candidate_count, &mut distortion);
-    clear(current, choices, at, highest + 1 - lowest);
+    steps::reading::distortions(place, levels, count, &mut distortion);
+    clear(current, choices, at, most + 1 - least);
     all_edges(
         map,
         configs,
@@ -246,14 +234,14 @@ pub fn fill_row(
         ready,
         place,
         levels,
-        candidate_count,
+        count,
         &distortion,
         next,
         span,
         current,
         choices,
         at,
-        lowest,
-        highest,
+        least,
+        most,
     );
 }

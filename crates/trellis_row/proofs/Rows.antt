@@ -102,29 +102,29 @@ dead-state g levels G = rw (dead-least g (nonzeros levels) (λ c m. G c (nonzero
     go false h = refl
 
 -- ---- the entries of a count
-module _ (book : Book) (x : Place) (levels : List ℤ) (next : List Float) (s : Span) (lowest r : ℕ) where
+module _ (book : Book) (x : Place) (levels : List ℤ) (next : List Float) (s : Span) (least r : ℕ) where
   -- a state that is settled is an entry
-  pub entry-settled : (i p : ℕ) (v : Float) (choice : ℕ) → lowest + i / 2 ≡ r → i % 2 ≡ p
-      → Settled (local_at book x r p) (nonzero_tail next s r) (zero_tail levels next s r) levels (record { cost = v; choice = choice }) → EntryIs book x levels next s lowest i v choice
+  pub entry-settled : (i p : ℕ) (v : Float) (choice : ℕ) → least + i / 2 ≡ r → i % 2 ≡ p
+      → Settled (local_at book x r p) (nonzero_tail next s r) (zero_tail levels next s r) levels (record { cost = v; choice = choice }) → EntryIs book x levels next s least i v choice
   unfolding row_cost row_level
   entry-settled i p v choice e f w = record { cost = rw (e, f) w.cost; level = λ t. rw (e, f) (w.level t); below = w.below; none = w.none }
 
   -- where nothing finite follows, the entry is infinite
-  pub entry-dead : (i p : ℕ) → lowest + i / 2 ≡ r → i % 2 ≡ p → ((q : ℤ) → Mem q levels → T (cost (local_at book x r p q)))
-      → nonzero_tail next s r ≡ inf false → zero_tail levels next s r ≡ inf false → EntryIs book x levels next s lowest i (inf false) 255
+  pub entry-dead : (i p : ℕ) → least + i / 2 ≡ r → i % 2 ≡ p → ((q : ℤ) → Mem q levels → T (cost (local_at book x r p q)))
+      → nonzero_tail next s r ≡ inf false → zero_tail levels next s r ≡ inf false → EntryIs book x levels next s least i (inf false) 255
   unfolding row_cost finite
   entry-dead i p e f G a b =
       record { cost = rw (e, f, a, b) (sym (dead-state (local_at book x r p) levels G)); level = λ t. absurd t; below = λ t. absurd t; none = λ t. refl }
 
   -- the pair of a count, behind the entries of the counts before it
   pub row_more : (at i : ℕ) (row : List Float) (choices : List ℕ) (a b : Float) (m n : ℕ) → i + 1 < length row → at + i + 1 < length choices
-      → RowIs book x levels next s lowest at i row choices → EntryIs book x levels next s lowest i a m → EntryIs book x levels next s lowest (i + 1) b n
-      → RowIs book x levels next s lowest at (i + 2) (set (set row i a) (i + 1) b) (set (set choices (at + i) m) (at + i + 1) n)
+      → RowIs book x levels next s least at i row choices → EntryIs book x levels next s least i a m → EntryIs book x levels next s least (i + 1) b n
+      → RowIs book x levels next s least at (i + 2) (set (set row i a) (i + 1) b) (set (set choices (at + i) m) (at + i + 1) n)
   row_more at i row choices a b m n room space w e f =
-      record { entry = two-more (EntryIs book x levels next s lowest) row choices at i a b m n room space w.entry e f }
+      record { entry = two-more (EntryIs book x levels next s least) row choices at i a b m n room space w.entry e f }
 
 -- ---- what follows is a cost
-module _ {book : Book} {x : Place} {c : Candidates} {next : List Float} {s : Span} {highest : ℕ} (w : Workable book x c next s highest) where
+module _ {book : Book} {x : Place} {c : Candidates} {next : List Float} {s : Span} {most : ℕ} (w : Workable book x c next s most) where
   tail-cost : (r p : ℕ) → p ≤ 1 → T (cost (tail_at next s r p))
   unfolding tail_at cost
   tail-cost r p h = go (leb s.from r) refl (leb r s.upto) refl
@@ -165,38 +165,38 @@ pub not-below : (t : Float) → T (cost t) → lt t (inf false) ≡ false → t 
 not-below t C e = infinite t C (subst⁻¹ (λ (b : Bool). T (not b)) (sym (lt-inf t C) ∙ e) tt)
 
 -- ---- a count's pair, written behind the pairs of the counts before it
-module _ (book : Book) (x : Place) (levels : List ℤ) (next : List Float) (s : Span) (lowest r at : ℕ) (row row' : List Float) (choices choices' : List ℕ) (a b : Float) (m n : ℕ)
-    (from : lowest ≤ r) (room : 2 * (r - lowest) + 1 < length row) (space : at + 2 * (r - lowest) + 1 < length choices)
-    (e : row' ≡ set (set row (2 * (r - lowest)) a) (2 * (r - lowest) + 1) b) (f : choices' ≡ set (set choices (at + 2 * (r - lowest)) m) (at + 2 * (r - lowest) + 1) n) where
-  first_count : lowest + 2 * (r - lowest) / 2 ≡ r
+module _ (book : Book) (x : Place) (levels : List ℤ) (next : List Float) (s : Span) (least r at : ℕ) (row row' : List Float) (choices choices' : List ℕ) (a b : Float) (m n : ℕ)
+    (from : least ≤ r) (room : 2 * (r - least) + 1 < length row) (space : at + 2 * (r - least) + 1 < length choices)
+    (e : row' ≡ set (set row (2 * (r - least)) a) (2 * (r - least) + 1) b) (f : choices' ≡ set (set choices (at + 2 * (r - least)) m) (at + 2 * (r - least) + 1) n) where
+  first_count : least + 2 * (r - least) / 2 ≡ r
   first_count = omega arith
 
-  first-prev : 2 * (r - lowest) % 2 ≡ 0
+  first-prev : 2 * (r - least) % 2 ≡ 0
   first-prev = omega arith
 
-  second-count : lowest + (2 * (r - lowest) + 1) / 2 ≡ r
+  second-count : least + (2 * (r - least) + 1) / 2 ≡ r
   second-count = omega arith
 
-  second-prev : (2 * (r - lowest) + 1) % 2 ≡ 1
+  second-prev : (2 * (r - least) + 1) % 2 ≡ 1
   second-prev = omega arith
 
   abbrev Written : Type 0
-  Written = RowIs book x levels next s lowest at (2 * (r - lowest)) row choices → RowIs book x levels next s lowest at (2 * (r - lowest) + 2) row' choices'
+  Written = RowIs book x levels next s least at (2 * (r - least)) row choices → RowIs book x levels next s least at (2 * (r - least) + 2) row' choices'
 
-  written : EntryIs book x levels next s lowest (2 * (r - lowest)) a m → EntryIs book x levels next s lowest (2 * (r - lowest) + 1) b n → Written
-  written p q = λ w. rw (e, f) (row_more book x levels next s lowest r at (2 * (r - lowest)) row choices a b m n room space w p q)
+  written : EntryIs book x levels next s least (2 * (r - least)) a m → EntryIs book x levels next s least (2 * (r - least) + 1) b n → Written
+  written p q = λ w. rw (e, f) (row_more book x levels next s least r at (2 * (r - least)) row choices a b m n room space w p q)
 
   pub written-settled : Settled (local_at book x r 0) (nonzero_tail next s r) (zero_tail levels next s r) levels (record { cost = a; choice = m })
       → Settled (local_at book x r 1) (nonzero_tail next s r) (zero_tail levels next s r) levels (record { cost = b; choice = n }) → Written
   written-settled p q =
-      written (entry-settled book x levels next s lowest r (2 * (r - lowest)) 0 a m first_count first-prev p)
-      (entry-settled book x levels next s lowest r (2 * (r - lowest) + 1) 1 b n second-count second-prev q)
+      written (entry-settled book x levels next s least r (2 * (r - least)) 0 a m first_count first-prev p)
+      (entry-settled book x levels next s least r (2 * (r - least) + 1) 1 b n second-count second-prev q)
 
   pub written-dead : ((p : ℕ) (q : ℤ) → p ≤ 1 → Mem q levels → T (cost (local_at book x r p q))) → nonzero_tail next s r ≡ inf false → zero_tail levels next s r ≡ inf false
       → a ≡ inf false → b ≡ inf false → m ≡ 255 → n ≡ 255 → Written
   written-dead G u v p q i j =
-      written (rw (p, i) (entry-dead book x levels next s lowest r (2 * (r - lowest)) 0 first_count first-prev (λ z. G 0 z (lit≤ tt)) u v))
-      (rw (q, j) (entry-dead book x levels next s lowest r (2 * (r - lowest) + 1) 1 second-count second-prev (λ z. G 1 z (lit≤ tt)) u v))
+      written (rw (p, i) (entry-dead book x levels next s least r (2 * (r - least)) 0 first_count first-prev (λ z. G 0 z (lit≤ tt)) u v))
+      (rw (q, j) (entry-dead book x levels next s least r (2 * (r - least) + 1) 1 second-count second-prev (λ z. G 1 z (lit≤ tt)) u v))
 
 -- a choice that is packed is the one that was settled
 pub settled-kept : {g : ℤ → Float} {x z : Float} {levels : List ℤ} {r : Chosen} → length levels ≤ 5 → Settled g x z levels r → Settled g x z levels (record { cost = r.cost; choice = kept r.choice })
@@ -220,34 +220,34 @@ alike-context x {from} w some n low high =
     rw (ne_eqb n 0 (λ e. some (omega arith)), ne_eqb from 0 some) (ap (λ (z : ℕ). x.offset + z) (w.same n x.k 0 low high))
 
 -- the counts from `from` up to r, r not included, are done; R is what a count's states are worked out from
-pub record Ran (R : Book → Place → ℕ → Type 0) (levels : List ℤ) (next : List Float) (s : Span) (at lowest from upto r : ℕ) (row row' : List Float) (choices choices' : List ℕ) : Type 0 where
+pub record Ran (R : Book → Place → ℕ → Type 0) (levels : List ℤ) (next : List Float) (s : Span) (at least from upto r : ℕ) (row row' : List Float) (choices choices' : List ℕ) : Type 0 where
   pub start : from ≤ r
   pub end : r ≤ upto + 1
   pub size : length row' ≡ length row
-  pub elsewhere : Elsewhere (at + 2 * (from - lowest)) (2 * (r - from)) choices choices'
+  pub elsewhere : Elsewhere (at + 2 * (from - least)) (2 * (r - from)) choices choices'
   pub more : (book : Book) (x : Place) → ((n : ℕ) → from ≤ n → n ≤ upto → R book x n)
-      → RowIs book x levels next s lowest at (2 * (from - lowest)) row choices → RowIs book x levels next s lowest at (2 * (r - lowest)) row' choices'
+      → RowIs book x levels next s least at (2 * (from - least)) row choices → RowIs book x levels next s least at (2 * (r - least)) row' choices'
 
-pub ran-none : (R : Book → Place → ℕ → Type 0) (levels : List ℤ) (next : List Float) (s : Span) (at lowest from upto : ℕ) (row : List Float) (choices : List ℕ) → from ≤ upto
-    → Ran R levels next s at lowest from upto from row row choices choices
-ran-none R levels next s at lowest from upto row choices h =
+pub ran-none : (R : Book → Place → ℕ → Type 0) (levels : List ℤ) (next : List Float) (s : Span) (at least from upto : ℕ) (row : List Float) (choices : List ℕ) → from ≤ upto
+    → Ran R levels next s at least from upto from row row choices choices
+ran-none R levels next s at least from upto row choices h =
     let nothing : 2 * (from - from) ≡ 0 = omega arith in
     record {
       start = le_refl from;
       end = omega arith;
       size = refl;
-      elsewhere = rw nothing (elsewhere-none (at + 2 * (from - lowest)) choices);
+      elsewhere = rw nothing (elsewhere-none (at + 2 * (from - least)) choices);
       more = λ book x G w. w;
     }
 
-pub ran-more : {R : Book → Place → ℕ → Type 0} {levels : List ℤ} {next : List Float} {s : Span} {at lowest from upto r : ℕ} {row row' row'' : List Float} {choices choices' choices'' : List ℕ}
-    → lowest ≤ from → r ≤ upto → Ran R levels next s at lowest from upto r row row' choices choices' → length row'' ≡ length row' → Elsewhere (at + 2 * (r - lowest)) 2 choices' choices''
-    → ((book : Book) (x : Place) → R book x r → RowIs book x levels next s lowest at (2 * (r - lowest)) row' choices' → RowIs book x levels next s lowest at (2 * (r - lowest) + 2) row'' choices'')
-    → Ran R levels next s at lowest from upto (r + 1) row row'' choices choices''
-ran-more {R} {levels} {next} {s} {at} {lowest} {from} {upto} {r} low h w size elsewhere more =
-    let step : 2 * (r + 1 - lowest) ≡ 2 * (r - lowest) + 2 = omega (arith, w.start) in
+pub ran-more : {R : Book → Place → ℕ → Type 0} {levels : List ℤ} {next : List Float} {s : Span} {at least from upto r : ℕ} {row row' row'' : List Float} {choices choices' choices'' : List ℕ}
+    → least ≤ from → r ≤ upto → Ran R levels next s at least from upto r row row' choices choices' → length row'' ≡ length row' → Elsewhere (at + 2 * (r - least)) 2 choices' choices''
+    → ((book : Book) (x : Place) → R book x r → RowIs book x levels next s least at (2 * (r - least)) row' choices' → RowIs book x levels next s least at (2 * (r - least) + 2) row'' choices'')
+    → Ran R levels next s at least from upto (r + 1) row row'' choices choices''
+ran-more {R} {levels} {next} {s} {at} {least} {from} {upto} {r} low h w size elsewhere more =
+    let step : 2 * (r + 1 - least) ≡ 2 * (r - least) + 2 = omega (arith, w.start) in
     let wide : 2 * (r + 1 - from) ≡ 2 * (r - from) + 2 = omega (arith, w.start) in
-    let place : at + 2 * (r - lowest) ≡ at + 2 * (from - lowest) + 2 * (r - from) = omega (arith, w.start) in
+    let place : at + 2 * (r - least) ≡ at + 2 * (from - least) + 2 * (r - from) = omega (arith, w.start) in
     record {
       start = omega (arith, w.start);
       end = omega arith;
@@ -257,7 +257,7 @@ ran-more {R} {levels} {next} {s} {at} {lowest} {from} {upto} {r} low h w size el
     }
 
 -- ---- the whole row
-pub workable-less : {book : Book} {x : Place} {c : Candidates} {next : List Float} {s : Span} {highest r : ℕ} → r ≤ highest → Workable book x c next s highest → Workable book x c next s r
+pub workable-less : {book : Book} {x : Place} {c : Candidates} {next : List Float} {s : Span} {most r : ℕ} → r ≤ most → Workable book x c next s most → Workable book x c next s r
 workable-less h w =
     record {
       priced = w.priced;
@@ -272,39 +272,39 @@ workable-less h w =
       tails = w.tails;
     }
 
-pub row-none : (book : Book) (x : Place) (levels : List ℤ) (next : List Float) (s : Span) (lowest at : ℕ) (row : List Float) (choices : List ℕ) → RowIs book x levels next s lowest at 0 row choices
-row-none book x levels next s lowest at row choices = record { entry = λ i h. absurd (omega arith) }
+pub row-none : (book : Book) (x : Place) (levels : List ℤ) (next : List Float) (s : Span) (least at : ℕ) (row : List Float) (choices : List ℕ) → RowIs book x levels next s least at 0 row choices
+row-none book x levels next s least at row choices = record { entry = λ i h. absurd (omega arith) }
 
-pub coding-of : {book : Book} {x : Place} {c : Candidates} {next : List Float} {s : Span} {highest : ℕ} → Workable book x c next s highest → Coding x highest
+pub coding-of : {book : Book} {x : Place} {c : Candidates} {next : List Float} {s : Span} {most : ℕ} → Workable book x c next s most → Coding x most
 coding-of w = record { covers = w.covers; coded = w.coded; left = w.left; offset = w.offset }
 
--- the counts from `lowest` up to r, r not included, are done
-pub record RowSoFar (book : Book) (x : Place) (levels : List ℤ) (next : List Float) (s : Span) (at lowest highest r : ℕ) (row row' : List Float) (choices choices' : List ℕ) : Type 0 where
-  pub from : lowest ≤ r
-  pub upto : r ≤ highest + 1
+-- the counts from `least` up to r, r not included, are done
+pub record SoFar (book : Book) (x : Place) (levels : List ℤ) (next : List Float) (s : Span) (at least most r : ℕ) (row row' : List Float) (choices choices' : List ℕ) : Type 0 where
+  pub from : least ≤ r
+  pub upto : r ≤ most + 1
   pub size : length row' ≡ length row
-  pub elsewhere : Elsewhere at (2 * (r - lowest)) choices choices'
-  pub done : RowIs book x levels next s lowest at (2 * (r - lowest)) row' choices'
+  pub elsewhere : Elsewhere at (2 * (r - least)) choices choices'
+  pub done : RowIs book x levels next s least at (2 * (r - least)) row' choices'
 
-pub so-far-none : (book : Book) (x : Place) (levels : List ℤ) (next : List Float) (s : Span) (at lowest highest : ℕ) (row : List Float) (choices : List ℕ) → lowest ≤ highest
-    → RowSoFar book x levels next s at lowest highest lowest row row choices choices
-so-far-none book x levels next s at lowest highest row choices h =
-    let nothing : 2 * (lowest - lowest) ≡ 0 = omega arith in
+pub so-far-none : (book : Book) (x : Place) (levels : List ℤ) (next : List Float) (s : Span) (at least most : ℕ) (row : List Float) (choices : List ℕ) → least ≤ most
+    → SoFar book x levels next s at least most least row row choices choices
+so-far-none book x levels next s at least most row choices h =
+    let nothing : 2 * (least - least) ≡ 0 = omega arith in
     record {
-      from = le_refl lowest;
+      from = le_refl least;
       upto = omega arith;
       size = refl;
       elsewhere = rw nothing (elsewhere-none at choices);
-      done = rw nothing (row-none book x levels next s lowest at row choices);
+      done = rw nothing (row-none book x levels next s least at row choices);
     }
 
 -- a run more, up to e
-pub so_far_more : {book : Book} {x : Place} {levels : List ℤ} {next : List Float} {s : Span} {at lowest highest r e : ℕ} {row row' row'' : List Float} {choices choices' choices'' : List ℕ}
-    → r ≤ e → e ≤ highest → RowSoFar book x levels next s at lowest highest r row row' choices choices' → length row'' ≡ length row' → Elsewhere (at + 2 * (r - lowest)) (2 * (e + 1 - r)) choices' choices''
-    → (RowIs book x levels next s lowest at (2 * (r - lowest)) row' choices' → RowIs book x levels next s lowest at (2 * (e + 1 - lowest)) row'' choices'')
-    → RowSoFar book x levels next s at lowest highest (e + 1) row row'' choices choices''
-so_far_more {at = at} {lowest} {highest} {r} {e} h k w size elsewhere more =
-    let step : 2 * (e + 1 - lowest) ≡ 2 * (r - lowest) + 2 * (e + 1 - r) = omega (arith, w.from) in
+pub so_far_more : {book : Book} {x : Place} {levels : List ℤ} {next : List Float} {s : Span} {at least most r e : ℕ} {row row' row'' : List Float} {choices choices' choices'' : List ℕ}
+    → r ≤ e → e ≤ most → SoFar book x levels next s at least most r row row' choices choices' → length row'' ≡ length row' → Elsewhere (at + 2 * (r - least)) (2 * (e + 1 - r)) choices' choices''
+    → (RowIs book x levels next s least at (2 * (r - least)) row' choices' → RowIs book x levels next s least at (2 * (e + 1 - least)) row'' choices'')
+    → SoFar book x levels next s at least most (e + 1) row row'' choices choices''
+so_far_more {at = at} {least} {most} {r} {e} h k w size elsewhere more =
+    let step : 2 * (e + 1 - least) ≡ 2 * (r - least) + 2 * (e + 1 - r) = omega (arith, w.from) in
     record {
       from = omega (arith, w.from);
       upto = omega arith;
@@ -314,17 +314,17 @@ so_far_more {at = at} {lowest} {highest} {r} {e} h k w size elsewhere more =
     }
 
 -- there is room for the next pair
-pub so-far-room : {book : Book} {x : Place} {levels : List ℤ} {next : List Float} {s : Span} {at lowest highest r : ℕ} {row row' : List Float} {choices choices' : List ℕ}
-    → r ≤ highest → RowSoFar book x levels next s at lowest highest r row row' choices choices' → (2 * (highest - lowest) + 1 < length row) × (at + 2 * (highest - lowest) + 1 < length choices)
-    → (2 * (r - lowest) + 1 < length row') × (at + 2 * (r - lowest) + 1 < length choices')
+pub so-far-room : {book : Book} {x : Place} {levels : List ℤ} {next : List Float} {s : Span} {at least most r : ℕ} {row row' : List Float} {choices choices' : List ℕ}
+    → r ≤ most → SoFar book x levels next s at least most r row row' choices choices' → (2 * (most - least) + 1 < length row) × (at + 2 * (most - least) + 1 < length choices)
+    → (2 * (r - least) + 1 < length row') × (at + 2 * (r - least) + 1 < length choices')
 so-far-room h w room = (omega (arith, room.0, w.size, w.from), omega (arith, room.1, w.elsewhere.size, w.from))
 
 -- a count more, its pair written
-pub so-far-pair : {book : Book} {x : Place} {levels : List ℤ} {next : List Float} {s : Span} {at lowest highest r : ℕ} {row row' row'' : List Float} {choices choices' choices'' : List ℕ}
-    → r ≤ highest → RowSoFar book x levels next s at lowest highest r row row' choices choices' → length row'' ≡ length row' → Elsewhere (at + 2 * (r - lowest)) 2 choices' choices''
-    → (RowIs book x levels next s lowest at (2 * (r - lowest)) row' choices' → RowIs book x levels next s lowest at (2 * (r - lowest) + 2) row'' choices'')
-    → RowSoFar book x levels next s at lowest highest (r + 1) row row'' choices choices''
-so-far-pair {lowest = lowest} {r = r} h w size elsewhere more =
+pub so-far-pair : {book : Book} {x : Place} {levels : List ℤ} {next : List Float} {s : Span} {at least most r : ℕ} {row row' row'' : List Float} {choices choices' choices'' : List ℕ}
+    → r ≤ most → SoFar book x levels next s at least most r row row' choices choices' → length row'' ≡ length row' → Elsewhere (at + 2 * (r - least)) 2 choices' choices''
+    → (RowIs book x levels next s least at (2 * (r - least)) row' choices' → RowIs book x levels next s least at (2 * (r - least) + 2) row'' choices'')
+    → SoFar book x levels next s at least most (r + 1) row row'' choices choices''
+so-far-pair {least = least} {r = r} h w size elsewhere more =
     let one : 2 * (r + 1 - r) ≡ 2 = omega arith in
-    let step : 2 * (r + 1 - lowest) ≡ 2 * (r - lowest) + 2 = omega (arith, w.from) in
+    let step : 2 * (r + 1 - least) ≡ 2 * (r - least) + 2 = omega (arith, w.from) in
     so_far_more (le_refl r) h w size (rw one elsewhere) (λ v. rw step (more v))

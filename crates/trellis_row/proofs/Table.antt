@@ -118,19 +118,19 @@ module _ (t : Tail) (q : Position) (qs : List Position) (Q : AllPriced t (q ∷ 
 
   module _ (book : Book) (x : Place) (local : (r p : ℕ) (c : ℤ) → p ≤ 1 → local_at book x r p c ≡ q.price r p c)
       (costs : (r p : ℕ) (c : ℤ) → p ≤ 1 → Mem c q.candidates → T (cost (q.price r p c))) (tails : (r : ℕ) → T (cost (nonzero_tail next s r)))
-      (lowest highest at : ℕ) (row : List Float) (choices : List ℕ) (I : RowIs book x q.candidates next s lowest at (2 * (highest + 1 - lowest)) row choices)
-      (inside : (r p : ℕ) → p ≤ 1 → T (finite (best t (q ∷ qs) r p)) → (lowest ≤ r) × (r ≤ highest)) where
-    module _ (r p : ℕ) (P : p ≤ 1) (low' : lowest ≤ r) (high' : r ≤ highest) where
-      place : 2 * (r - lowest) + p < 2 * (highest + 1 - lowest)
+      (least most at : ℕ) (row : List Float) (choices : List ℕ) (I : RowIs book x q.candidates next s least at (2 * (most + 1 - least)) row choices)
+      (inside : (r p : ℕ) → p ≤ 1 → T (finite (best t (q ∷ qs) r p)) → (least ≤ r) × (r ≤ most)) where
+    module _ (r p : ℕ) (P : p ≤ 1) (low' : least ≤ r) (high' : r ≤ most) where
+      place : 2 * (r - least) + p < 2 * (most + 1 - least)
       place = omega arith
 
-      count : lowest + (2 * (r - lowest) + p) / 2 ≡ r
+      count : least + (2 * (r - least) + p) / 2 ≡ r
       count = omega arith
 
-      prev : (2 * (r - lowest) + p) % 2 ≡ p
+      prev : (2 * (r - least) + p) % 2 ≡ p
       prev = omega arith
 
-      cost_is : row_cost book x q.candidates next s lowest (2 * (r - lowest) + p) ≡ best t (q ∷ qs) r p
+      cost_is : row_cost book x q.candidates next s least (2 * (r - least) + p) ≡ best t (q ∷ qs) r p
       unfolding row_cost
       cost_is =
           rw (count, prev)
@@ -138,7 +138,7 @@ module _ (t : Tail) (q : Position) (qs : List Position) (Q : AllPriced t (q ∷ 
           ∙ state-best q r p (tail_at next s) (nonzero_tail next s r) (zero_tail q.candidates next s r) (λ c m. costs r p c P m) (nonzero_is next q low high s C r) (zero_is next q low high s C q.candidates r) (tails r)
           ∙ sym (best-row t q qs r p (tail_at next s) (agrees r)))
 
-      level_is : row_level book x q.candidates next s lowest (2 * (r - lowest) + p) ≡ pick t q qs r p
+      level_is : row_level book x q.candidates next s least (2 * (r - least) + p) ≡ pick t q qs r p
       unfolding row_level
       level_is =
           rw (count, prev)
@@ -146,23 +146,23 @@ module _ (t : Tail) (q : Position) (qs : List Position) (Q : AllPriced t (q ∷ 
           ∙ state-pick q r p (tail_at next s) (nonzero_tail next s r) (zero_tail q.candidates next s r) (λ c m. costs r p c P m) (nonzero_is next q low high s C r) (zero_is next q low high s C q.candidates r) (tails r)
           ∙ sym (pick-row t q qs r p (tail_at next s) (agrees r)))
 
-      value : get_or row (2 * (r - lowest) + p) nan ≡ best t (q ∷ qs) r p
-      value = (I.entry (2 * (r - lowest) + p) place).cost ∙ cost_is
+      value : get_or row (2 * (r - least) + p) nan ≡ best t (q ∷ qs) r p
+      value = (I.entry (2 * (r - least) + p) place).cost ∙ cost_is
 
-    pub row-for : RowFor t (q ∷ qs) row lowest highest
+    pub row-for : RowFor t (q ∷ qs) row least most
     row-for = record { values = λ r p l h P. value r p P l h; inside = inside }
 
-    pub choices-for : ChoicesFor t q qs choices at lowest
+    pub choices-for : ChoicesFor t q qs choices at least
     choices-for =
         record {
           picks = λ r p P f.
               let w = inside r p P f in
-              (I.entry (2 * (r - lowest) + p) (place r p P w.0 w.1)).level (subst⁻¹ (λ (y : Float). T (finite y)) (value r p P w.0 w.1) f) ∙ level_is r p P w.0 w.1;
+              (I.entry (2 * (r - least) + p) (place r p P w.0 w.1)).level (subst⁻¹ (λ (y : Float). T (finite y)) (value r p P w.0 w.1) f) ∙ level_is r p P w.0 w.1;
           below = λ r p P f.
               let w = inside r p P f in
-              (I.entry (2 * (r - lowest) + p) (place r p P w.0 w.1)).below (subst⁻¹ (λ (y : Float). T (finite y)) (value r p P w.0 w.1) f);
+              (I.entry (2 * (r - least) + p) (place r p P w.0 w.1)).below (subst⁻¹ (λ (y : Float). T (finite y)) (value r p P w.0 w.1) f);
         }
 
     -- and 255 where the state's least cost is infinite
-    pub choices-none : (r p : ℕ) → p ≤ 1 → lowest ≤ r → r ≤ highest → T (not (finite (best t (q ∷ qs) r p))) → get_or choices (at + (2 * (r - lowest) + p)) 0 ≡ 255
-    choices-none r p P l h f = (I.entry (2 * (r - lowest) + p) (place r p P l h)).none (subst⁻¹ (λ (y : Float). T (not (finite y))) (value r p P l h) f)
+    pub choices-none : (r p : ℕ) → p ≤ 1 → least ≤ r → r ≤ most → T (not (finite (best t (q ∷ qs) r p))) → get_or choices (at + (2 * (r - least) + p)) 0 ≡ 255
+    choices-none r p P l h f = (I.entry (2 * (r - least) + p) (place r p P l h)).none (subst⁻¹ (λ (y : Float). T (not (finite y))) (value r p P l h) f)

@@ -27,27 +27,27 @@ nonzero_tail next s r = cond (leb 1 r) (tail_at next s (r - 1) 1) (inf false)
 unfoldable pub zero_tail : List ℤ → List Float → Span → ℕ → Float
 zero_tail levels next s r = cond (has_zero levels) (tail_at next s r 0) (inf false)
 
--- the entry at i of a row whose first count is `lowest`: the cost of count lowest + i / 2 with `prev` i % 2, and its level
+-- the entry at i of a row whose first count is `least`: the cost of count least + i / 2 with `prev` i % 2, and its level
 unfoldable pub row_cost : Book → Place → List ℤ → List Float → Span → ℕ → ℕ → Float
-row_cost book x levels next s lowest i =
-    let r = lowest + i / 2 in
+row_cost book x levels next s least i =
+    let r = least + i / 2 in
     state_cost (local_at book x r (i % 2)) (nonzero_tail next s r) (zero_tail levels next s r) levels
 
 unfoldable pub row_level : Book → Place → List ℤ → List Float → Span → ℕ → ℕ → ℤ
-row_level book x levels next s lowest i =
-    let r = lowest + i / 2 in
+row_level book x levels next s least i =
+    let r = least + i / 2 in
     state_level (local_at book x r (i % 2)) (nonzero_tail next s r) (zero_tail levels next s r) levels
 
 -- v is the cost of the row's entry i, and where that is finite the choice is the index of its level, else 255
-pub record EntryIs (book : Book) (x : Place) (levels : List ℤ) (next : List Float) (s : Span) (lowest i : ℕ) (v : Float) (choice : ℕ) : Type 0 where
-  pub cost : v ≡ row_cost book x levels next s lowest i
-  pub level : T (finite v) → get_or levels choice (pos 0) ≡ row_level book x levels next s lowest i
+pub record EntryIs (book : Book) (x : Place) (levels : List ℤ) (next : List Float) (s : Span) (least i : ℕ) (v : Float) (choice : ℕ) : Type 0 where
+  pub cost : v ≡ row_cost book x levels next s least i
+  pub level : T (finite v) → get_or levels choice (pos 0) ≡ row_level book x levels next s least i
   pub below : T (finite v) → choice < length levels
   pub none : T (not (finite v)) → choice ≡ 255
 
 -- the first n entries of a row are there: the costs, and from `at` on the choices
-pub record RowIs (book : Book) (x : Place) (levels : List ℤ) (next : List Float) (s : Span) (lowest at n : ℕ) (row : List Float) (choices : List ℕ) : Type 0 where
-  pub entry : (i : ℕ) → i < n → EntryIs book x levels next s lowest i (get_or row i nan) (get_or choices (at + i) 0)
+pub record RowIs (book : Book) (x : Place) (levels : List ℤ) (next : List Float) (s : Span) (least at n : ℕ) (row : List Float) (choices : List ℕ) : Type 0 where
+  pub entry : (i : ℕ) → i < n → EntryIs book x levels next s least i (get_or row i nan) (get_or choices (at + i) 0)
 
 -- outside the n bytes from `at` on nothing changed
 pub record Elsewhere (at n : ℕ) (before after : List ℕ) : Type 0 where
@@ -55,22 +55,22 @@ pub record Elsewhere (at n : ℕ) (before after : List ℕ) : Type 0 where
   pub ahead : (j : ℕ) → j < at → get_or after j 0 ≡ get_or before j 0
   pub behind : (j : ℕ) → at + n ≤ j → get_or after j 0 ≡ get_or before j 0
 
--- the contexts of a place exist for every count up to `highest`
-pub record Coding (x : Place) (highest : ℕ) : Type 0 where
+-- the contexts of a place exist for every count up to `most`
+pub record Coding (x : Place) (most : ℕ) : Type 0 where
   pub covers : Covered x.covered x.log2
   pub coded : x.covered ≤ x.k
-  pub left : highest + x.k ≤ 64 * x.covered
+  pub left : most + x.k ≤ 64 * x.covered
   pub offset : x.offset + 457 < 14850
 
--- what a row is worked out from: a book that passed, candidates, contexts that exist for every count up to `highest`, and costs throughout
-pub record Workable (book : Book) (x : Place) (c : Candidates) (next : List Float) (s : Span) (highest : ℕ) : Type 0 where
+-- what a row is worked out from: a book that passed, candidates, contexts that exist for every count up to `most`, and costs throughout
+pub record Workable (book : Book) (x : Place) (c : Candidates) (next : List Float) (s : Span) (most : ℕ) : Type 0 where
   pub priced : book_refusal book ≡ 0
   pub usable : Usable c
   pub covers : Covered x.covered x.log2
   pub coded : x.covered ≤ x.k
-  pub left : highest + x.k ≤ 64 * x.covered
+  pub left : most + x.k ≤ 64 * x.covered
   pub offset : x.offset + 457 < 14850
-  pub locals : (r p : ℕ) (q : ℤ) → r ≤ highest → p ≤ 1 → Memᴰ q (listed c) → T (cost (local_at book x r p q))
+  pub locals : (r p : ℕ) (q : ℤ) → r ≤ most → p ≤ 1 → Memᴰ q (listed c) → T (cost (local_at book x r p q))
   pub starts : s.base ≤ s.from
   pub room : s.from ≤ s.upto → 2 * (s.upto - s.base) + 1 < length next
   pub tails : (r p : ℕ) → s.from ≤ r → r ≤ s.upto → p ≤ 1 → T (cost (get_or next (2 * (r - s.base) + p) nan))

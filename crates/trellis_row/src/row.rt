@@ -71,7 +71,7 @@ fn zero_tail(next: &[f32], span: Span, r: usize, zero: u8) -> f32
 // The two states of a count, what follows at hand.
 fn settle(
     levels: &[i32; 5],
-    candidate_count: usize,
+    count: usize,
     first: &[f32; 5],
     second: &[f32; 5],
     locals: Locals,
@@ -79,17 +79,17 @@ fn settle(
     nonzero_tail: f32,
     zero_tail: f32,
 ) -> States
-    requires { Usable (in_array candidate_count levels.now) }
-    ensures { (g h : ℤ → Float) → Located g h (listed (in_array candidate_count levels.now)) first.now second.now locals → ((q : ℤ) → Memᴰ q (listed (in_array candidate_count levels.now)) → T (is_cost (g q))) → ((q : ℤ) → Memᴰ q (listed (in_array candidate_count levels.now)) → T (is_cost (h q)))
-        → ZeroAt (listed (in_array candidate_count levels.now)) zero → T (is_cost nonzero_tail) → T (is_cost zero_tail) → (has_zero (listed (in_array candidate_count levels.now)) ≡ false → zero_tail ≡ inf false)
-        → (Settled g nonzero_tail zero_tail (listed (in_array candidate_count levels.now)) result.first) × (Settled h nonzero_tail zero_tail (listed (in_array candidate_count levels.now)) result.second) }
+    requires { Usable (in_array count levels.now) }
+    ensures { (g h : ℤ → Float) → Located g h (listed (in_array count levels.now)) first.now second.now locals → ((q : ℤ) → Memᴰ q (listed (in_array count levels.now)) → T (is_cost (g q))) → ((q : ℤ) → Memᴰ q (listed (in_array count levels.now)) → T (is_cost (h q)))
+        → ZeroAt (listed (in_array count levels.now)) zero → T (is_cost nonzero_tail) → T (is_cost zero_tail) → (has_zero (listed (in_array count levels.now)) ≡ false → zero_tail ≡ inf false)
+        → (Settled g nonzero_tail zero_tail (listed (in_array count levels.now)) result.first) × (Settled h nonzero_tail zero_tail (listed (in_array count levels.now)) result.second) }
 {
     let least_first = locals.least_first;
     let least_second = locals.least_second;
     States {
         first: chosen::choose(
             levels,
-            candidate_count,
+            count,
             first,
             least_first,
             locals.zero_first,
@@ -99,7 +99,7 @@ fn settle(
         ),
         second: chosen::choose(
             levels,
-            candidate_count,
+            count,
             second,
             least_second,
             locals.zero_second,
@@ -151,10 +151,10 @@ pub fn unreachable() -> States
     }
 }
 
-// The two states of count `r`, written behind those of the counts from `lowest` on.
+// The two states of count `r`, written behind those of the counts from `least` on.
 fn row_state(
     levels: &[i32; 5],
-    candidate_count: usize,
+    count: usize,
     first: &[f32; 5],
     second: &[f32; 5],
     locals: Locals,
@@ -164,50 +164,50 @@ fn row_state(
     current: &mut [f32],
     choices: &mut [u8],
     at: usize,
-    lowest: usize,
+    least: usize,
     r: usize,
 )
-    requires usable { Usable (in_array candidate_count levels.now) }
+    requires usable { Usable (in_array count levels.now) }
     requires base_le_from { (span.base ≤ span.from) × (span.from ≤ span.upto → 2 * (span.upto - span.base) + 1 < length next.now) }
-    requires lowest_le_r { (lowest ≤ r) × ((2 * (r - lowest) + 1 < length current.old) × (2 * at + 2 * (r - lowest) + 1 < length (unpacked choices.old))) }
+    requires least_le_r { (least ≤ r) × ((2 * (r - least) + 1 < length current.old) × (2 * at + 2 * (r - least) + 1 < length (unpacked choices.old))) }
     ensures current_len_unchanged { length current.new ≡ length current.old }
-    ensures elsewhere { Elsewhere (2 * at + 2 * (r - lowest)) 2 (unpacked choices.old) (unpacked choices.new) }
-    ensures row_is { (book : Book) (x : Place) → Ready book x (in_array candidate_count levels.now) next.now span first.now second.now locals zero r
-        → RowIs book x (listed (in_array candidate_count levels.now)) next.now span lowest (2 * at) (2 * (r - lowest)) current.old (unpacked choices.old)
-        → RowIs book x (listed (in_array candidate_count levels.now)) next.now span lowest (2 * at) (2 * (r - lowest) + 2) current.new (unpacked choices.new) }
+    ensures elsewhere { Elsewhere (2 * at + 2 * (r - least)) 2 (unpacked choices.old) (unpacked choices.new) }
+    ensures row_is { (book : Book) (x : Place) → Ready book x (in_array count levels.now) next.now span first.now second.now locals zero r
+        → RowIs book x (listed (in_array count levels.now)) next.now span least (2 * at) (2 * (r - least)) current.old (unpacked choices.old)
+        → RowIs book x (listed (in_array count levels.now)) next.now span least (2 * at) (2 * (r - least) + 2) current.new (unpacked choices.new) }
 {
     let x = nonzero_tail(next, span, r);
     let z = zero_tail(next, span, r, zero);
     if infinite(x, z) {
-        write_pair(current, choices, r - lowest, at, unreachable());
+        write_pair(current, choices, r - least, at, unreachable());
         return;
     }
     write_pair(
         current,
         choices,
-        r - lowest,
+        r - least,
         at,
-        settle(levels, candidate_count, first, second, locals, zero, x, z),
+        settle(levels, count, first, second, locals, zero, x, z),
     );
 }
 
-// The last count, up to `highest`, of those from `from` on that share its context. Where nothing remains there is no token, so 0 stands alone.
-pub fn run_end(place: Place, from: usize, highest: usize) -> usize
-    requires coding { Coding place highest }
-    requires from_le_highest { from ≤ highest }
-    ensures { (from ≤ result) × ((result ≤ highest) × ((n : ℕ) → from ≤ n → n ≤ result → context_at place n ≡ context_at place from)) }
+// The last count, up to `most`, of those from `from` on that share its context. Where nothing remains there is no token, so 0 stands alone.
+pub fn run_end(place: Place, from: usize, most: usize) -> usize
+    requires coding { Coding place most }
+    requires from_le_most { from ≤ most }
+    ensures { (from ≤ result) × ((result ≤ most) × ((n : ℕ) → from ≤ n → n ≤ result → context_at place n ≡ context_at place from)) }
 {
     if from == 0 {
         return 0;
     }
     let end = ac_context::last_count_alike(from, place.covered, place.log2);
-    if end < highest { end } else { highest }
+    if end < most { end } else { most }
 }
 
 // The states of the counts from `from` to `upto`, which share their local costs.
 fn fill_run(
     levels: &[i32; 5],
-    candidate_count: usize,
+    count: usize,
     first: &[f32; 5],
     second: &[f32; 5],
     locals: Locals,
@@ -217,42 +217,30 @@ fn fill_run(
     current: &mut [f32],
     choices: &mut [u8],
     at: usize,
-    lowest: usize,
+    least: usize,
     from: usize,
     upto: usize,
 )
-    requires usable { Usable (in_array candidate_count levels.now) }
+    requires usable { Usable (in_array count levels.now) }
     requires base_le_from { (span.base ≤ span.from) × (span.from ≤ span.upto → 2 * (span.upto - span.base) + 1 < length next.now) }
-    requires lowest_le_from { (lowest ≤ from) × ((from ≤ upto) × (upto ≤ 131072)) }
-    requires lowest_in_bounds { (2 * (upto - lowest) + 1 < length current.old) × (2 * at + 2 * (upto - lowest) + 1 < length (unpacked choices.old)) }
+    requires least_le_from { (least ≤ from) × ((from ≤ upto) × (upto ≤ 131072)) }
+    requires least_in_bounds { (2 * (upto - least) + 1 < length current.old) × (2 * at + 2 * (upto - least) + 1 < length (unpacked choices.old)) }
     ensures current_len_unchanged { length current.new ≡ length current.old }
-    ensures elsewhere { Elsewhere (2 * at + 2 * (from - lowest)) (2 * (upto + 1 - from)) (unpacked choices.old) (unpacked choices.new) }
-    ensures by_index { (book : Book) (x : Place) → ((r : ℕ) → from ≤ r → r ≤ upto → Ready book x (in_array candidate_count levels.now) next.now span first.now second.now locals zero r)
-        → RowIs book x (listed (in_array candidate_count levels.now)) next.now span lowest (2 * at) (2 * (from - lowest)) current.old (unpacked choices.old)
-        → RowIs book x (listed (in_array candidate_count levels.now)) next.now span lowest (2 * at) (2 * (upto + 1 - lowest)) current.new (unpacked choices.new) }
+    ensures elsewhere { Elsewhere (2 * at + 2 * (from - least)) (2 * (upto + 1 - from)) (unpacked choices.old) (unpacked choices.new) }
+    ensures by_index { (book : Book) (x : Place) → ((r : ℕ) → from ≤ r → r ≤ upto → Ready book x (in_array count levels.now) next.now span first.now second.now locals zero r)
+        → RowIs book x (listed (in_array count levels.now)) next.now span least (2 * at) (2 * (from - least)) current.old (unpacked choices.old)
+        → RowIs book x (listed (in_array count levels.now)) next.now span least (2 * at) (2 * (upto + 1 - least)) current.new (unpacked choices.new) }
 {
     let mut r = from;
     while r <= upto {
         row_state(
-            levels,
-            candidate_count,
-            first,
-            second,
-            locals,
-            zero,
-            next,
-            span,
-            current,
-            choices,
-            at,
-            lowest,
-            r,
+            levels, count, first, second, locals, zero, next, span, current, choices, at, least, r,
         );
         r += 1;
     }
 }
 
-// The states of the counts from `lowest` to `highest`: their costs from the front of `current`, their choices from byte `at` on. Counts that
+// The states of the counts from `least` to `most`: their costs from the front of `current`, their choices from byte `at` on. Counts that
 // share a context share their local costs, which are worked out from the first of them that something finite follows.
 pub fn fill_row(
     map: &[u8],
@@ -261,32 +249,32 @@ pub fn fill_row(
     ready: &[f32],
     place: Place,
     levels: &[i32; 5],
-    candidate_count: usize,
+    count: usize,
     next: &[f32],
     span: Span,
     current: &mut [f32],
     choices: &mut [u8],
     at: usize,
-    lowest: usize,
-    highest: usize,
+    least: usize,
+    most: usize,
 )
-    requires workable { Workable (book_in map.now configs.now symbols.now ready.now) place (in_array candidate_count levels.now) next.now span highest }
-    requires lowest_le_highest { (lowest ≤ highest) × ((2 * (highest - lowest) + 1 < length current.old) × (2 * at + 2 * (highest - lowest) + 1 < length (unpacked choices.old))) }
+    requires workable { Workable (book_in map.now configs.now symbols.now ready.now) place (in_array count levels.now) next.now span most }
+    requires least_le_most { (least ≤ most) × ((2 * (most - least) + 1 < length current.old) × (2 * at + 2 * (most - least) + 1 < length (unpacked choices.old))) }
     ensures current_len_unchanged { length current.new ≡ length current.old }
-    ensures elsewhere { Elsewhere (2 * at) (2 * (highest + 1 - lowest)) (unpacked choices.old) (unpacked choices.new) }
-    ensures row_is { RowIs (book_in map.now configs.now symbols.now ready.now) place (listed (in_array candidate_count levels.now)) next.now span lowest (2 * at) (2 * (highest + 1 - lowest)) current.new (unpacked choices.new) }
+    ensures elsewhere { Elsewhere (2 * at) (2 * (most + 1 - least)) (unpacked choices.old) (unpacked choices.new) }
+    ensures row_is { RowIs (book_in map.now configs.now symbols.now ready.now) place (listed (in_array count levels.now)) next.now span least (2 * at) (2 * (most + 1 - least)) current.new (unpacked choices.new) }
 {
     let mut distortion = [0.0f32; 5];
     let mut first = [0.0f32; 5];
     let mut second = [0.0f32; 5];
-    steps::reading::distortions(place, levels, candidate_count, &mut distortion);
-    let zero = chosen::zero_index(levels, candidate_count);
-    let mut r = lowest;
-    while r <= highest {
+    steps::reading::distortions(place, levels, count, &mut distortion);
+    let zero = chosen::zero_index(levels, count);
+    let mut r = least;
+    while r <= most {
         let x = nonzero_tail(next, span, r);
         let z = zero_tail(next, span, r, zero);
         if infinite(x, z) {
-            write_pair(current, choices, r - lowest, at, unreachable());
+            write_pair(current, choices, r - least, at, unreachable());
             r += 1;
             continue;
         }
@@ -298,28 +286,16 @@ pub fn fill_row(
             ready,
             place,
             levels,
-            candidate_count,
+            count,
             &distortion,
             context,
             &mut first,
             &mut second,
         );
-        let end = run_end(place, r, highest);
+        let end = run_end(place, r, most);
         fill_run(
-            levels,
-            candidate_count,
-            &first,
-            &second,
-            locals,
-            zero,
-            next,
-            span,
-            current,
-            choices,
-            at,
-            lowest,
-            r,
-            end,
+            levels, count, &first, &second, locals, zero, next, span, current, choices, at, least,
+            r, end,
         );
         r = end + 1;
     }

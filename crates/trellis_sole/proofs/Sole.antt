@@ -194,10 +194,10 @@ pub count-first : {n : ℕ} → n ≡ 1 → 0 < n
 count-first e = rw e (lit< tt)
 
 -- a count of a row that can be worked out
-pub sole-ready : {book : Book} {x : Place} {c : Candidates} {next : List Float} {s : Span} {highest : ℕ} (n context : ℕ) {d : Float} {token : Pair} → Workable book x c next s highest → c.count ≡ 1 → n ≤ highest
+pub sole-ready : {book : Book} {x : Place} {c : Candidates} {next : List Float} {s : Span} {most : ℕ} (n context : ℕ) {d : Float} {token : Pair} → Workable book x c next s most → c.count ≡ 1 → n ≤ most
     → context_at x n ≡ context → d ≡ distortion_at x (get_or c.levels 0 (pos 0)) → TokenIs book x context (get_or c.levels 0 (pos 0)) token
     → SoleReady book x next s (get_or c.levels 0 (pos 0)) d token n
-sole-ready {book} {x} {c} {next} {s} {highest} n context {d} {token} w one h e f t =
+sole-ready {book} {x} {c} {next} {s} {most} n context {d} {token} w one h e f t =
     record {
       local = λ p P. w.locals n p _ h P (rw (listed-one w.usable one) (here refl));
       nonzero_follows = nonzero-tail-cost w n;

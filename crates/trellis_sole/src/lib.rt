@@ -1,4 +1,4 @@
-// A row of the trellis where the position has one candidate: each count has one way on, so nothing is chosen.
+// A row of the trellis where the position has one candidate: each count has one way on, so nothing is chosen. `fill_row` takes any position.
 ghost use Rattle.std.specs.Prelude.{◌≡◌, ◌∷◌, [], ℕ, ◌+◌, ◌-◌, ◌*◌, ◌<◌, ◌≤◌, T, length};
 ghost use Rattle.bias.specs.Level.{is_level};
 ghost use Rattle.candidates.specs.Candidates.{in_array};
@@ -70,7 +70,7 @@ fn token_of(
     place.rated_pair(map, configs, symbols, ready, context, level)
 }
 
-// The two states of count `r`, written behind those of the counts from `lowest` on.
+// The two states of count `r`, written behind those of the counts from `least` on.
 fn row_state(
     level: i32,
     distortion: f32,
@@ -80,30 +80,30 @@ fn row_state(
     current: &mut [f32],
     choices: &mut [u8],
     at: usize,
-    lowest: usize,
+    least: usize,
     r: usize,
 )
     requires base_le_from { (span.base ≤ span.from) × (span.from ≤ span.upto → 2 * (span.upto - span.base) + 1 < length next.now) }
-    requires lowest_le_r { (lowest ≤ r) × ((2 * (r - lowest) + 1 < length current.old) × (2 * at + 2 * (r - lowest) + 1 < length (unpacked choices.old))) }
+    requires least_le_r { (least ≤ r) × ((2 * (r - least) + 1 < length current.old) × (2 * at + 2 * (r - least) + 1 < length (unpacked choices.old))) }
     requires t { T (is_level level) }
     ensures current_len_unchanged { length current.new ≡ length current.old }
-    ensures elsewhere { Elsewhere (2 * at + 2 * (r - lowest)) 2 (unpacked choices.old) (unpacked choices.new) }
+    ensures elsewhere { Elsewhere (2 * at + 2 * (r - least)) 2 (unpacked choices.old) (unpacked choices.new) }
     ensures row_is { (book : Book) (x : Place) → SoleReady book x next.now span level distortion token r
-        → RowIs book x (level ∷ []) next.now span lowest (2 * at) (2 * (r - lowest)) current.old (unpacked choices.old)
-        → RowIs book x (level ∷ []) next.now span lowest (2 * at) (2 * (r - lowest) + 2) current.new (unpacked choices.new) }
+        → RowIs book x (level ∷ []) next.now span least (2 * at) (2 * (r - least)) current.old (unpacked choices.old)
+        → RowIs book x (level ∷ []) next.now span least (2 * at) (2 * (r - least) + 2) current.new (unpacked choices.new) }
 {
     let tail = tail_of(next, span, r, level);
     if tail < costs::infinity() {
         row::write_pair(
             current,
             choices,
-            r - lowest,
+            r - least,
             at,
             states_of(distortion, token, tail),
         );
         return;
     }
-    row::write_pair(current, choices, r - lowest, at, row::unreachable());
+    row::write_pair(current, choices, r - least, at, row::unreachable());
 }
 
 // The states of the counts from `from` to `upto`, which share the token's prices.
@@ -116,31 +116,31 @@ fn fill_run(
     current: &mut [f32],
     choices: &mut [u8],
     at: usize,
-    lowest: usize,
+    least: usize,
     from: usize,
     upto: usize,
 )
     requires base_le_from { (span.base ≤ span.from) × (span.from ≤ span.upto → 2 * (span.upto - span.base) + 1 < length next.now) }
-    requires lowest_le_from { (lowest ≤ from) × ((from ≤ upto) × (upto ≤ 131072)) }
-    requires lowest_in_bounds { (2 * (upto - lowest) + 1 < length current.old) × (2 * at + 2 * (upto - lowest) + 1 < length (unpacked choices.old)) }
+    requires least_le_from { (least ≤ from) × ((from ≤ upto) × (upto ≤ 131072)) }
+    requires least_in_bounds { (2 * (upto - least) + 1 < length current.old) × (2 * at + 2 * (upto - least) + 1 < length (unpacked choices.old)) }
     requires t { T (is_level level) }
     ensures current_len_unchanged { length current.new ≡ length current.old }
-    ensures elsewhere { Elsewhere (2 * at + 2 * (from - lowest)) (2 * (upto + 1 - from)) (unpacked choices.old) (unpacked choices.new) }
+    ensures elsewhere { Elsewhere (2 * at + 2 * (from - least)) (2 * (upto + 1 - from)) (unpacked choices.old) (unpacked choices.new) }
     ensures by_index { (book : Book) (x : Place) → ((r : ℕ) → from ≤ r → r ≤ upto → SoleReady book x next.now span level distortion token r)
-        → RowIs book x (level ∷ []) next.now span lowest (2 * at) (2 * (from - lowest)) current.old (unpacked choices.old)
-        → RowIs book x (level ∷ []) next.now span lowest (2 * at) (2 * (upto + 1 - lowest)) current.new (unpacked choices.new) }
+        → RowIs book x (level ∷ []) next.now span least (2 * at) (2 * (from - least)) current.old (unpacked choices.old)
+        → RowIs book x (level ∷ []) next.now span least (2 * at) (2 * (upto + 1 - least)) current.new (unpacked choices.new) }
 {
     let mut r = from;
     while r <= upto {
         row_state(
-            level, distortion, token, next, span, current, choices, at, lowest, r,
+            level, distortion, token, next, span, current, choices, at, least, r,
         );
         r += 1;
     }
 }
 
-// The states of the counts from `lowest` to `highest`: their costs from the front of `current`, their choices from byte `at` on.
-pub fn fill_sole(
+// The states of the counts from `least` to `most` of a position with one candidate.
+fn fill_sole(
     map: &[u8],
     configs: &[u8],
     symbols: &[f32],
@@ -152,25 +152,61 @@ pub fn fill_sole(
     current: &mut [f32],
     choices: &mut [u8],
     at: usize,
-    lowest: usize,
-    highest: usize,
+    least: usize,
+    most: usize,
 )
-    requires workable { Workable (book_in map.now configs.now symbols.now ready.now) place (in_array 1 levels.now) next.now span highest }
-    requires lowest_le_highest { (lowest ≤ highest) × ((2 * (highest - lowest) + 1 < length current.old) × (2 * at + 2 * (highest - lowest) + 1 < length (unpacked choices.old))) }
+    requires workable { Workable (book_in map.now configs.now symbols.now ready.now) place (in_array 1 levels.now) next.now span most }
+    requires least_le_most { (least ≤ most) × ((2 * (most - least) + 1 < length current.old) × (2 * at + 2 * (most - least) + 1 < length (unpacked choices.old))) }
     ensures current_len_unchanged { length current.new ≡ length current.old }
-    ensures elsewhere { Elsewhere (2 * at) (2 * (highest + 1 - lowest)) (unpacked choices.old) (unpacked choices.new) }
-    ensures row_is { RowIs (book_in map.now configs.now symbols.now ready.now) place (listed (in_array 1 levels.now)) next.now span lowest (2 * at) (2 * (highest + 1 - lowest)) current.new (unpacked choices.new) }
+    ensures elsewhere { Elsewhere (2 * at) (2 * (most + 1 - least)) (unpacked choices.old) (unpacked choices.new) }
+    ensures row_is { RowIs (book_in map.now configs.now symbols.now ready.now) place (listed (in_array 1 levels.now)) next.now span least (2 * at) (2 * (most + 1 - least)) current.new (unpacked choices.new) }
 {
     let level = levels[0];
     let distortion = place.distortion(level);
-    let mut r = lowest;
-    while r <= highest {
+    let mut r = least;
+    while r <= most {
         let context = place.context(r);
         let token = token_of(map, configs, symbols, ready, place, context, level);
-        let end = row::run_end(place, r, highest);
+        let end = row::run_end(place, r, most);
         fill_run(
-            level, distortion, token, next, span, current, choices, at, lowest, r, end,
+            level, distortion, token, next, span, current, choices, at, least, r, end,
         );
         r = end + 1;
     }
+}
+
+// The states of the counts from `least` to `most`: their costs from the front of `current`, their choices from byte `at` on.
+pub fn fill_row(
+    map: &[u8],
+    configs: &[u8],
+    symbols: &[f32],
+    ready: &[f32],
+    place: Place,
+    levels: &[i32; 5],
+    count: usize,
+    next: &[f32],
+    span: Span,
+    current: &mut [f32],
+    choices: &mut [u8],
+    at: usize,
+    least: usize,
+    most: usize,
+)
+    requires workable { Workable (book_in map.now configs.now symbols.now ready.now) place (in_array count levels.now) next.now span most }
+    requires least_le_most { (least ≤ most) × ((2 * (most - least) + 1 < length current.old) × (2 * at + 2 * (most - least) + 1 < length (unpacked choices.old))) }
+    ensures current_len_unchanged { length current.new ≡ length current.old }
+    ensures elsewhere { Elsewhere (2 * at) (2 * (most + 1 - least)) (unpacked choices.old) (unpacked choices.new) }
+    ensures row_is { RowIs (book_in map.now configs.now symbols.now ready.now) place (listed (in_array count levels.now)) next.now span least (2 * at) (2 * (most + 1 - least)) current.new (unpacked choices.new) }
+{
+    if count == 1 {
+        fill_sole(
+            map, configs, symbols, ready, place, levels, next, span, current, choices, at, least,
+            most,
+        );
+        return;
+    }
+    row::fill_row(
+        map, configs, symbols, ready, place, levels, count, next, span, current, choices, at,
+        least, most,
+    );
 }

@@ -44,7 +44,7 @@ use Rattle.trellis_row.proofs.Rows.{nonzero-tail-cost}
 use Rattle.trellis_row.proofs.Table.{Common, row-for, choices-for, choices-none}
 use Rattle.search_checks.specs.Checked.{positions, Searched}
 use Rattle.search_checks.proofs.Checked.{inner, remaining-few, remaining-step, positions-cons}
-use Rattle.trellis_table.specs.Rows.{lowest_count, rise_at, Rowable, RowAt, Stepped}
+use Rattle.trellis_table.specs.Rows.{least_count, rise_at, Rowable, RowAt, Stepped}
 use Rattle.trellis_table.proofs.Picks.{member, pick-among, pick-cheap, pick-within}
 use Rattle.weights.specs.declared.Window.{Window}
 use Rattle.trellis_table.specs.declared.position.Counts.{Counts}
@@ -53,7 +53,7 @@ use Rattle.trellis_table.specs.declared.position.Counts.{Counts}
 pub sum_is : {a a' n n' : ℕ} → a ≡ a' → n ≡ n' → a + n ≡ a' + n'
 sum_is p q = cc
 
-pub lowest-is : (hw : ℕ) {l past past' after after' : ℕ} → l ≡ lowest_count hw past after → past ≡ past' → after ≡ after' → l ≡ lowest_count hw past' after'
+pub lowest-is : (hw : ℕ) {l past past' after after' : ℕ} → l ≡ least_count hw past after → past ≡ past' → after ≡ after' → l ≡ least_count hw past' after'
 lowest-is hw e p q = cc
 
 -- a row's last count: of the first position, and of any other
@@ -115,7 +115,7 @@ pub small_at : (hw i n : ℕ) → hw ≤ 12 → i < n → n ≤ 1024 → choice_
 small_at hw i n h k l =
     let wide : choice_bytes hw ≤ 26 = omega arith in
     let far : i ≤ 1024 = omega arith in
-    let highest : choice_bytes hw * i ≤ 26 * 1024 = mul-le-mul wide far in
+    let most : choice_bytes hw * i ≤ 26 * 1024 = mul-le-mul wide far in
     omega arith
 
 pub last-room : (hw i n long : ℕ) → 0 < i → i ≤ n → choice_bytes hw * n ≤ long → choice_bytes hw * (i - 1) + choice_bytes hw ≤ long
@@ -135,12 +135,12 @@ ends c w i h = omega arith
 next_fits : (w i : ℕ) → i < w → suc i + (w - suc i) ≤ w
 next_fits w i h = omega arith
 
-row_room : (hw : ℕ) (upto base lowest highest long : ℕ) → base ≡ lowest → upto ≤ highest → highest ≤ lowest + (2 * hw + 1) → states hw ≤ long → 2 * (upto - base) + 1 < long
-row_room hw upto base lowest highest long e f g h = omega arith
+row_room : (hw : ℕ) (upto base least most long : ℕ) → base ≡ least → upto ≤ most → most ≤ least + (2 * hw + 1) → states hw ≤ long → 2 * (upto - base) + 1 < long
+row_room hw upto base least most long e f g h = omega arith
 
 pub room-left : (m a past w i c : ℕ) → m ≡ min a (past + (w - 1 - i)) + 1 → i < w → past ≤ 64 * c - (c + w) → c + w ≤ 64 * c → m + (c + i) ≤ 64 * c
 room-left m a past w i c e h l f =
-    let highest : min a (past + (w - 1 - i)) ≤ past + (w - 1 - i) = min-le_right a (past + (w - 1 - i)) in
+    let most : min a (past + (w - 1 - i)) ≤ past + (w - 1 - i) = min-le_right a (past + (w - 1 - i)) in
     omega arith
 
 pub least-most : (hw : ℕ) (l m past after left : ℕ) → l ≡ max past (after - hw) → m ≡ min (after + hw) (past + left) + 1 → past ≤ after → after ≤ past + left → l ≤ m
@@ -241,8 +241,8 @@ module _ {hw : ℕ} {book : Book} {b : Block} {p : Plan} (K : Rowable hw book b 
     past : ℕ
     past = past_window p.window b
 
-    common : (c : Counts) (s : Span) → s.base ≡ c.lowest → s.from ≡ max (input_remaining b (covered b + suc i) - hw) c.lowest → s.upto ≡ min (input_remaining b (covered b + suc i) + hw) c.highest
-        → Common (position_at hw p.window book b i) c.lowest c.highest s
+    common : (c : Counts) (s : Span) → s.base ≡ c.least → s.from ≡ max (input_remaining b (covered b + suc i) - hw) c.least → s.upto ≡ min (input_remaining b (covered b + suc i) + hw) c.most
+        → Common (position_at hw p.window book b i) c.least c.most s
     unfolding position_at
     common c s e f g =
         let a = after_same i in
@@ -255,10 +255,10 @@ module _ {hw : ℕ} {book : Book} {b : Block} {p : Plan} (K : Rowable hw book b 
           whole = λ r l u l' u'. (omega arith, omega arith);
         }
 
-    pub within-counts : (c : Counts) → c.lowest ≡ lowest_count hw (past_window p.window b) (input_remaining b (covered b + suc i))
-        → c.highest ≡ min (input_remaining b (covered b + suc i) + hw) (past_window p.window b + (p.window.length - 1 - i)) + 1
-        → (r q : ℕ) → q ≤ 1 → T (finite (best (tail_of p.window book b) (position_at hw p.window book b i ∷ positions hw p.window book b (suc i)) r q)) → (c.lowest ≤ r) × (r ≤ c.highest)
-    unfolding position_at tail_of lowest_count
+    pub within-counts : (c : Counts) → c.least ≡ least_count hw (past_window p.window b) (input_remaining b (covered b + suc i))
+        → c.most ≡ min (input_remaining b (covered b + suc i) + hw) (past_window p.window b + (p.window.length - 1 - i)) + 1
+        → (r q : ℕ) → q ≤ 1 → T (finite (best (tail_of p.window book b) (position_at hw p.window book b i ∷ positions hw p.window book b (suc i)) r q)) → (c.least ≤ r) × (r ≤ c.most)
+    unfolding position_at tail_of least_count
     within-counts c e f r q Q t =
         let a = after_same i in
         let reach = best-reach (tail_of p.window book b) (position_at hw p.window book b i ∷ positions hw p.window book b (suc i)) r q (priced-cons i h) Q t in
@@ -268,21 +268,21 @@ module _ {hw : ℕ} {book : Book} {b : Block} {p : Plan} (K : Rowable hw book b 
           subst⁻¹ (λ (n : ℕ). r ≤ n) f (high_part hw _ _ r p.window.length i h (rw long at reach.most) (rw a at near.most)),
         )
 
-    lowest : (c : Counts) → c.lowest ≡ lowest_count hw (past_window p.window b) (input_remaining b (covered b + suc i))
-        → (r q : ℕ) → q ≤ 1 → T (finite (best (tail_of p.window book b) (position_at hw p.window book b i ∷ positions hw p.window book b (suc i)) r q)) → c.lowest ≤ r
-    lowest c e r q Q t = (within-counts (record { lowest = c.lowest; highest = min (input_remaining b (covered b + suc i) + hw) (past_window p.window b + (p.window.length - 1 - i)) + 1 }) e refl r q Q t).0
+    lowest : (c : Counts) → c.least ≡ least_count hw (past_window p.window b) (input_remaining b (covered b + suc i))
+        → (r q : ℕ) → q ≤ 1 → T (finite (best (tail_of p.window book b) (position_at hw p.window book b i ∷ positions hw p.window book b (suc i)) r q)) → c.least ≤ r
+    lowest c e r q Q t = (within-counts (record { least = c.least; most = min (input_remaining b (covered b + suc i) + hw) (past_window p.window b + (p.window.length - 1 - i)) + 1 }) e refl r q Q t).0
 
-    pub narrow : (c : Counts) → c.lowest ≡ lowest_count hw (past_window p.window b) (input_remaining b (covered b + suc i))
-        → c.highest ≡ min (input_remaining b (covered b + suc i) + hw) (past_window p.window b + (p.window.length - 1 - i)) + 1 → c.highest ≤ c.lowest + (2 * hw + 1)
-    unfolding lowest_count
+    pub narrow : (c : Counts) → c.least ≡ least_count hw (past_window p.window b) (input_remaining b (covered b + suc i))
+        → c.most ≡ min (input_remaining b (covered b + suc i) + hw) (past_window p.window b + (p.window.length - 1 - i)) + 1 → c.most ≤ c.least + (2 * hw + 1)
+    unfolding least_count
     narrow c e f = omega arith
 
     -- what a row is worked out from
     module _ (place : Place) (offer : Offer) (offered : List ℤ) (S : Offered p.window b i offer offered) (place_is : place ≡ place_of b p.log2 i) (U : Usable (in_array offer.count offered)) (next : List Float) (n c : Counts) (s : Span) (R : RowAt hw p.window book b (suc i) next n) (long : states hw ≤ length next)
-        (sb : s.base ≡ n.lowest) (sf : s.from ≡ max (input_remaining b (covered b + suc i) - hw) n.lowest) (su : s.upto ≡ min (input_remaining b (covered b + suc i) + hw) n.highest)
-        (cl : c.lowest ≡ lowest_count hw (past_window p.window b) (input_remaining b (covered b + suc i)))
-        (cm : c.highest ≡ last_of hw i (past_window p.window b) (input_remaining b (covered b + suc i)) (p.window.length - 1 - i) s.upto (rise_at p.window.restoring i offer.level)) where
-      C : Common (position_at hw p.window book b i) n.lowest n.highest s
+        (sb : s.base ≡ n.least) (sf : s.from ≡ max (input_remaining b (covered b + suc i) - hw) n.least) (su : s.upto ≡ min (input_remaining b (covered b + suc i) + hw) n.most)
+        (cl : c.least ≡ least_count hw (past_window p.window b) (input_remaining b (covered b + suc i)))
+        (cm : c.most ≡ last_of hw i (past_window p.window b) (input_remaining b (covered b + suc i)) (p.window.length - 1 - i) s.upto (rise_at p.window.restoring i offer.level)) where
+      C : Common (position_at hw p.window book b i) n.least n.most s
       C = common n s sb sf su
 
       tails : (r q : ℕ) → s.from ≤ r → r ≤ s.upto → q ≤ 1 → T (cost (get_or next (2 * (r - s.base) + q) nan))
@@ -304,7 +304,7 @@ module _ {hw : ℕ} {book : Book} {b : Block} {p : Plan} (K : Rowable hw book b 
       upto-near : s.upto ≤ input_remaining b (covered b + suc i) + hw
       upto-near = rw su (min-le_left _ _)
 
-      upto-held : s.upto ≤ n.highest
+      upto-held : s.upto ≤ n.most
       upto-held = rw su (min-le_right _ _)
 
       counted : input_remaining b (covered b + suc i) + nz offer.level ≡ input_remaining b (covered b + i)
@@ -333,17 +333,17 @@ module _ {hw : ℕ} {book : Book} {b : Block} {p : Plan} (K : Rowable hw book b 
 
       -- what is known of the last count
       record Last : Type 0 where
-        pub first : i ≡ 0 → c.highest ≡ min (input_remaining b (covered b + suc i) + hw) (past_window p.window b + (p.window.length - 1 - i)) + 1
-        pub near : c.highest ≤ input_remaining b (covered b + suc i) + hw + 1
-        pub far : c.highest ≤ past_window p.window b + (p.window.length - i)
-        pub some : input_remaining b (covered b + suc i) ≤ c.highest
-        pub held : input_remaining b (covered b + i) ≤ c.highest
-        pub inside : (r q : ℕ) → q ≤ 1 → T (finite (best (tail_of p.window book b) (position_at hw p.window book b i ∷ positions hw p.window book b (suc i)) r q)) → r ≤ c.highest
+        pub first : i ≡ 0 → c.most ≡ min (input_remaining b (covered b + suc i) + hw) (past_window p.window b + (p.window.length - 1 - i)) + 1
+        pub near : c.most ≤ input_remaining b (covered b + suc i) + hw + 1
+        pub far : c.most ≤ past_window p.window b + (p.window.length - i)
+        pub some : input_remaining b (covered b + suc i) ≤ c.most
+        pub held : input_remaining b (covered b + i) ≤ c.most
+        pub inside : (r q : ℕ) → q ≤ 1 → T (finite (best (tail_of p.window book b) (position_at hw p.window book b i ∷ positions hw p.window book b (suc i)) r q)) → r ≤ c.most
 
       last : Last
       last = go (eqb i 0) refl cm
         where
-          go : (t : Bool) → eqb i 0 ≡ t → c.highest ≡ cond t (min (input_remaining b (covered b + suc i) + hw) (past_window p.window b + (p.window.length - 1 - i)) + 1) (s.upto + rise_at p.window.restoring i offer.level) → Last
+          go : (t : Bool) → eqb i 0 ≡ t → c.most ≡ cond t (min (input_remaining b (covered b + suc i) + hw) (past_window p.window b + (p.window.length - 1 - i)) + 1) (s.upto + rise_at p.window.restoring i offer.level) → Last
           go true t e =
               let behind = past_after i h in
               let input = held_first (input_remaining b (covered b + suc i)) hw (past_window p.window b + (p.window.length - 1 - i)) (nz offer.level) behind.1 (nz-le offer.level) in
@@ -367,11 +367,11 @@ module _ {hw : ℕ} {book : Book} {b : Block} {p : Plan} (K : Rowable hw book b 
                 inside = λ r q Q f. rw e (picked-inside r q Q f);
               }
 
-      fits : c.highest + (covered b + i) ≤ 64 * covered b
+      fits : c.most + (covered b + i) ≤ 64 * covered b
       unfolding past_length
       fits = fits_in _ _ p.window.length i (covered b) last.far h (past-most p.window b) P.window.fits
 
-      pub working : Workable book place (in_array offer.count offered) next s c.highest
+      pub working : Workable book place (in_array offer.count offered) next s c.most
       unfolding place_of
       working =
           record {
@@ -387,12 +387,12 @@ module _ {hw : ℕ} {book : Book} {b : Block} {p : Plan} (K : Rowable hw book b 
             tails = tails;
           }
 
-      pub counts-narrow : c.highest ≤ c.lowest + (2 * hw + 1)
-      unfolding lowest_count
+      pub counts-narrow : c.most ≤ c.least + (2 * hw + 1)
+      unfolding least_count
       counts-narrow = rw cl (narrow-in hw _ _ _ last.near)
 
-      pub counts_some : c.lowest ≤ c.highest
-      unfolding lowest_count
+      pub counts_some : c.least ≤ c.most
+      unfolding least_count
       counts_some = rw cl (some_in hw _ _ _ (past_after i h).0 last.some)
 
       local : (r pr : ℕ) (z : ℤ) → pr ≤ 1 → local_at book place r pr z ≡ (position_at hw p.window book b i).price r pr z
@@ -407,35 +407,35 @@ module _ {hw : ℕ} {book : Book} {b : Block} {p : Plan} (K : Rowable hw book b 
       unfolding position_at
       listed_here = S.listed_is
 
-      pub stepped : (row row' : List Float) (choices choices' : List ℕ) (after' : ℕ) → length row' ≡ length row → Elsewhere (2 * (choice_bytes hw * i)) (2 * (c.highest + 1 - c.lowest)) (unpacked choices) (unpacked choices')
-          → RowIs book place (listed (in_array offer.count offered)) next s c.lowest (2 * (choice_bytes hw * i)) (2 * (c.highest + 1 - c.lowest)) row' (unpacked choices')
+      pub stepped : (row row' : List Float) (choices choices' : List ℕ) (after' : ℕ) → length row' ≡ length row → Elsewhere (2 * (choice_bytes hw * i)) (2 * (c.most + 1 - c.least)) (unpacked choices) (unpacked choices')
+          → RowIs book place (listed (in_array offer.count offered)) next s c.least (2 * (choice_bytes hw * i)) (2 * (c.most + 1 - c.least)) row' (unpacked choices')
           → after' ≡ input_remaining b (covered b + suc i) + nz offer.level → Stepped hw p.window book b i row row' choices choices' (record { counts = c; after = after' })
       stepped row row' choices choices' after' size E I e =
-          let J = subst (λ (l : List ℤ). RowIs book place l next s c.lowest (2 * (choice_bytes hw * i)) (2 * (c.highest + 1 - c.lowest)) row' (unpacked choices')) listed_here I in
+          let J = subst (λ (l : List ℤ). RowIs book place l next s c.least (2 * (choice_bytes hw * i)) (2 * (c.most + 1 - c.least)) row' (unpacked choices')) listed_here I in
           let Q = priced-cons i h in
           let dead : (r : ℕ) → T (cost (nonzero_tail next s r)) = λ r. nonzero-tail-cost working r in
-          let inside : (r q : ℕ) → q ≤ 1 → T (finite (best (tail_of p.window book b) (position_at hw p.window book b i ∷ positions hw p.window book b (suc i)) r q)) → (c.lowest ≤ r) × (r ≤ c.highest) =
+          let inside : (r q : ℕ) → q ≤ 1 → T (finite (best (tail_of p.window book b) (position_at hw p.window book b i ∷ positions hw p.window book b (suc i)) r q)) → (c.least ≤ r) × (r ≤ c.most) =
           λ r q Q f. (lowest c cl r q Q f, last.inside r q Q f) in
           record {
             row_is =
                 record {
-                  stands = subst⁻¹ (λ (l : List Position). RowFor (tail_of p.window book b) l row' c.lowest c.highest) (positions-cons K.checked hw i h)
-                      (row-for (tail_of p.window book b) (position_at hw p.window book b i) (positions hw p.window book b (suc i)) Q next n.lowest n.highest s C R.stands book place local costs dead c.lowest c.highest (2 * (choice_bytes hw * i)) row' (unpacked choices') J inside);
+                  stands = subst⁻¹ (λ (l : List Position). RowFor (tail_of p.window book b) l row' c.least c.most) (positions-cons K.checked hw i h)
+                      (row-for (tail_of p.window book b) (position_at hw p.window book b i) (positions hw p.window book b (suc i)) Q next n.least n.most s C R.stands book place local costs dead c.least c.most (2 * (choice_bytes hw * i)) row' (unpacked choices') J inside);
                   narrow = counts-narrow;
                   holds = last.held;
                   reach = last.far;
                 };
             size = size;
             chosen = record {
-              last = c.highest;
+              last = c.most;
               inside = last.inside;
               stands = subst (λ (l : ℕ). ChoicesFor (tail_of p.window book b) (position_at hw p.window book b i) (positions hw p.window book b (suc i)) (unpacked choices') (2 * (choice_bytes hw * i)) l) cl
-                  (choices-for (tail_of p.window book b) (position_at hw p.window book b i) (positions hw p.window book b (suc i)) Q next n.lowest n.highest s C R.stands book place local costs dead c.lowest c.highest (2 * (choice_bytes hw * i)) row' (unpacked choices') J inside);
+                  (choices-for (tail_of p.window book b) (position_at hw p.window book b i) (positions hw p.window book b (suc i)) Q next n.least n.most s C R.stands book place local costs dead c.least c.most (2 * (choice_bytes hw * i)) row' (unpacked choices') J inside);
               none = λ r q P l h f.
                   subst (λ (k : ℕ). get_or (unpacked choices') (2 * (choice_bytes hw * i) + (2 * (r - k) + q)) 0 ≡ 255) cl
-                  (choices-none (tail_of p.window book b) (position_at hw p.window book b i) (positions hw p.window book b (suc i)) Q next n.lowest n.highest s C R.stands book place local costs dead c.lowest c.highest (2 * (choice_bytes hw * i)) row' (unpacked choices') J inside r q P (rw cl l) h f);
+                  (choices-none (tail_of p.window book b) (position_at hw p.window book b i) (positions hw p.window book b (suc i)) Q next n.least n.most s C R.stands book place local costs dead c.least c.most (2 * (choice_bytes hw * i)) row' (unpacked choices') J inside r q P (rw cl l) h f);
             };
-            elsewhere = wider E (row-width hw c.lowest c.highest counts-narrow);
+            elsewhere = wider E (row-width hw c.least c.most counts-narrow);
             after_is = e ∙ counted;
-            counts_are = record { lowest = cl; highest = last.first };
+            counts_are = record { least = cl; most = last.first };
           }

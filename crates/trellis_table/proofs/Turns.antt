@@ -50,14 +50,14 @@ tail-pair w zero h = w.zero
 tail-pair w (suc zero) h = w.one
 tail-pair w (suc (suc p)) h = absurd (not-suc-le-zero (le_of_suc-le-suc h))
 
-pub rowed-start : (hw : ℕ) (v : Window) (book : Book) (b : Block) (past : ℕ) (row_a row_b : List Float) (choices : List ℕ) → past ≡ past_window v b → TailRow v book b row_a
-    → Rowed hw v book b v.length row_a row_b choices (record { counts = record { lowest = past; highest = past }; after = past }) true
+pub rowed-start : (hw : ℕ) (v : Window) (book : Book) (b : Block) (past : ℕ) (first second : List Float) (choices : List ℕ) → past ≡ past_window v b → TailRow v book b first
+    → Rowed hw v book b v.length first second choices (record { counts = record { least = past; most = past }; after = past }) true
 unfolding tail_of past_window
-rowed-start hw v book b past row_a row_b choices e w =
+rowed-start hw v book b past first second choices e w =
     record {
       live =
           record {
-            stands = subst⁻¹ (λ (l : List Position). RowFor (tail_of v book b) l row_a past past) (end-positions hw v book b)
+            stands = subst⁻¹ (λ (l : List Position). RowFor (tail_of v book b) l first past past) (end-positions hw v book b)
                 (record {
                   values = λ r p l h P. value r p l h P;
                   inside = λ r p P f. let same = end-inside (tail_of v book b) r p f ∙ sym e in (omega arith, omega arith);
@@ -71,11 +71,11 @@ rowed-start hw v book b past row_a row_b choices e w =
       counts_are = λ h. absurd (omega arith);
     }
   where
-    value : (r p : ℕ) → past ≤ r → r ≤ past → p ≤ 1 → get_or row_a (2 * (r - past) + p) nan ≡ best (tail_of v book b) [] r p
+    value : (r p : ℕ) → past ≤ r → r ≤ past → p ≤ 1 → get_or first (2 * (r - past) + p) nan ≡ best (tail_of v book b) [] r p
     value r p l h P =
         let here : 2 * (r - past) + p ≡ p = omega arith in
         let same : r ≡ past = omega arith in
-        ap (λ (k : ℕ). get_or row_a k nan) here ∙ tail-pair w p P ∙ sym (end-best (tail_of v book b) r p (same ∙ e))
+        ap (λ (k : ℕ). get_or first k nan) here ∙ tail-pair w p P ∙ sym (end-best (tail_of v book b) r p (same ∙ e))
 
 before-next : (s i j : ℕ) → i < j → s * i + s ≤ s * j
 before-next s i j h = le_trans (le_of_eq (sym (mul-suc s i))) (mul-le-mul_left s h)
@@ -106,8 +106,8 @@ chosen_more {hw} {v} {book} {b} {i} {choices} {choices'} E here w = record { eac
         chosen-kept later E (w.each j later h)
 
 -- ---- what the next position is handed
-abbrev pub from_tail : {book : Book} {scan : List ℕ} {source inverse : List Float} {levels : List ℤ} {p : Plan} {past i after : ℕ} {row_a next : List Float} {c : Counts} {w : ℕ}
-    → (t : TailFor book scan source inverse levels p past row_a) → after ≡ input_remaining t.searched.block (covered t.searched.block + suc i) → RowAt w p.window book t.searched.block (suc i) next c
+abbrev pub from_tail : {book : Book} {scan : List ℕ} {source inverse : List Float} {levels : List ℤ} {p : Plan} {past i after : ℕ} {first next : List Float} {c : Counts} {w : ℕ}
+    → (t : TailFor book scan source inverse levels p past first) → after ≡ input_remaining t.searched.block (covered t.searched.block + suc i) → RowAt w p.window book t.searched.block (suc i) next c
     → NextFor w book scan source inverse levels p past i after next c
 from_tail t a r = record { searched = t.searched; past_is = t.past_is; after_is = a; row_is = r }
 
@@ -115,16 +115,16 @@ from_tail t a r = record { searched = t.searched; past_is = t.past_is; after_is 
 again : (i : ℕ) → 0 < i → suc (i - 1) ≡ i
 again i h = omega arith
 
-module _ {hw : ℕ} {v : Window} {book : Book} {b : Block} {i : ℕ} {row_a row_b : List Float} {choices : List ℕ} {s : Step} {in_a : Bool} (h : 0 < i) (w : Rowed hw v book b i row_a row_b choices s in_a) where
-  pub from-a : in_a ≡ true → RowAt hw v book b (suc (i - 1)) row_a s.counts
-  from-a e =
-      subst⁻¹ (λ (k : ℕ). RowAt hw v book b k row_a s.counts) (again i h)
-      (subst (λ (t : Bool). RowAt hw v book b i (cond t row_a row_b) s.counts) e w.live)
+module _ {hw : ℕ} {v : Window} {book : Book} {b : Block} {i : ℕ} {first second : List Float} {choices : List ℕ} {s : Step} {in_first : Bool} (h : 0 < i) (w : Rowed hw v book b i first second choices s in_first) where
+  pub from_first : in_first ≡ true → RowAt hw v book b (suc (i - 1)) first s.counts
+  from_first e =
+      subst⁻¹ (λ (k : ℕ). RowAt hw v book b k first s.counts) (again i h)
+      (subst (λ (t : Bool). RowAt hw v book b i (cond t first second) s.counts) e w.live)
 
-  pub from-b : in_a ≡ false → RowAt hw v book b (suc (i - 1)) row_b s.counts
-  from-b e =
-      subst⁻¹ (λ (k : ℕ). RowAt hw v book b k row_b s.counts) (again i h)
-      (subst (λ (t : Bool). RowAt hw v book b i (cond t row_a row_b) s.counts) e w.live)
+  pub from_second : in_first ≡ false → RowAt hw v book b (suc (i - 1)) second s.counts
+  from_second e =
+      subst⁻¹ (λ (k : ℕ). RowAt hw v book b k second s.counts) (again i h)
+      (subst (λ (t : Bool). RowAt hw v book b i (cond t first second) s.counts) e w.live)
 
   pub after-back : s.after ≡ input_remaining b (covered b + suc (i - 1))
   after-back = w.after_is ∙ ap (λ (k : ℕ). input_remaining b (covered b + k)) (sym (again i h))
@@ -132,8 +132,8 @@ module _ {hw : ℕ} {v : Window} {book : Book} {b : Block} {i : ℕ} {row_a row_
   chosen-back : ChosenFrom hw v book b (suc (i - 1)) choices
   chosen-back = subst⁻¹ (λ (k : ℕ). ChosenFrom hw v book b k choices) (again i h) w.chosen
 
-  pub to-b : {row row' : List Float} {choices' : List ℕ} {s' : Step} → Stepped hw v book b (i - 1) row row' choices choices' s' → Rowed hw v book b (i - 1) row_a row' choices' s' false
-  to-b x = record { live = x.row_is; chosen = chosen_more x.elsewhere x.chosen chosen-back; after_is = x.after_is; counts_are = λ _. x.counts_are }
+  pub to-second : {row row' : List Float} {choices' : List ℕ} {s' : Step} → Stepped hw v book b (i - 1) row row' choices choices' s' → Rowed hw v book b (i - 1) first row' choices' s' false
+  to-second x = record { live = x.row_is; chosen = chosen_more x.elsewhere x.chosen chosen-back; after_is = x.after_is; counts_are = λ _. x.counts_are }
 
-  pub to-a : {row row' : List Float} {choices' : List ℕ} {s' : Step} → Stepped hw v book b (i - 1) row row' choices choices' s' → Rowed hw v book b (i - 1) row' row_b choices' s' true
-  to-a x = record { live = x.row_is; chosen = chosen_more x.elsewhere x.chosen chosen-back; after_is = x.after_is; counts_are = λ _. x.counts_are }
+  pub to-first : {row row' : List Float} {choices' : List ℕ} {s' : Step} → Stepped hw v book b (i - 1) row row' choices choices' s' → Rowed hw v book b (i - 1) row' second choices' s' true
+  to-first x = record { live = x.row_is; chosen = chosen_more x.elsewhere x.chosen chosen-back; after_is = x.after_is; counts_are = λ _. x.counts_are }

@@ -1,6 +1,7 @@
 -- The rows of the trellis: which counts the row of each position holds, and what the rows and choices stand for, for a band of half-width w and a window v.
 use Rattle.std.specs.Prelude.{ℕ, suc, ◌+◌, ◌-◌, ◌*◌, ◌≤◌, ◌<◌, max, min, ◌≡◌, Bool, cond, not, List, ◌∷◌, length, get_or, T, ltb, ℤ, Float}
 use Rattle.std.specs.Float.{nan}
+use Rattle.std.specs.Float.Ieee.{lt}
 use Rattle.std.specs.Float.Ieee.Scale.{finite}
 use Rattle.block.specs.Block.{Block, covered, input_remaining}
 use Rattle.block.specs.Band.{position_at, problem_of, tail_of, past_window}
@@ -14,6 +15,7 @@ use Rattle.steps.specs.declared.reading.Plan.{Plan}
 use Rattle.trellis_row.specs.Row.{Elsewhere}
 use Rattle.trellis_row.specs.Table.{RowFor, ChoicesFor}
 use Rattle.weights.specs.declared.Window.{Window}
+use Rattle.trellis_table.specs.declared.count.Best.{Best}
 use Rattle.trellis_table.specs.declared.position.Counts.{Counts}
 use Rattle.trellis_table.specs.declared.position.Step.{Step}
 
@@ -23,8 +25,8 @@ pub record Rowable (w : ℕ) (book : Book) (b : Block) (p : Plan) : Type 0 where
   pub narrow : w ≤ 12
 
 -- the first count of a row, where `after` nonzero input levels follow the position and `past` of them lie past the window
-unfoldable pub lowest_count : ℕ → ℕ → ℕ → ℕ
-lowest_count w past after = max past (after - w)
+unfoldable pub least_count : ℕ → ℕ → ℕ → ℕ
+least_count w past after = max past (after - w)
 
 -- by how much a count may rise at position i, whose level is q: a 0 that can't be restored stays
 unfoldable pub rise_at : ℕ → ℕ → ℤ → ℕ
@@ -32,22 +34,22 @@ rise_at restoring i q = cond (ltb i restoring) 1 (nz q)
 
 -- a row and its counts stand for the positions from i on; the input's count is one of them, and none is above what can remain there
 pub record RowAt (w : ℕ) (v : Window) (book : Book) (b : Block) (i : ℕ) (row : List Float) (c : Counts) : Type 0 where
-  pub stands : RowFor (tail_of v book b) (positions w v book b i) row c.lowest c.highest
-  pub narrow : c.highest ≤ c.lowest + (2 * w + 1)
-  pub holds : input_remaining b (covered b + i) ≤ c.highest
-  pub reach : c.highest ≤ past_window v b + (v.length - i)
+  pub stands : RowFor (tail_of v book b) (positions w v book b i) row c.least c.most
+  pub narrow : c.most ≤ c.least + (2 * w + 1)
+  pub holds : input_remaining b (covered b + i) ≤ c.most
+  pub reach : c.most ≤ past_window v b + (v.length - i)
 
 -- the first count of position i's row, and the last that it may hold
 abbrev pub lowest_at : ℕ → Window → Block → ℕ → ℕ
-lowest_at w v b i = lowest_count w (past_window v b) (input_remaining b (covered b + suc i))
+lowest_at w v b i = least_count w (past_window v b) (input_remaining b (covered b + suc i))
 
 abbrev pub highest_at : ℕ → Window → Block → ℕ → ℕ
 highest_at w v b i = min (input_remaining b (covered b + suc i) + w) (past_window v b + (v.length - 1 - i)) + 1
 
 -- the first position's row holds all that it may
 pub record CountsAt (w : ℕ) (v : Window) (b : Block) (i : ℕ) (c : Counts) : Type 0 where
-  pub lowest : c.lowest ≡ lowest_at w v b i
-  pub highest : i ≡ 0 → c.highest ≡ highest_at w v b i
+  pub least : c.least ≡ lowest_at w v b i
+  pub most : i ≡ 0 → c.most ≡ highest_at w v b i
 
 -- the first position's row, of a block and a half-width that the last step is not handed
 pub record FirstRow (book : Book) (p : Plan) (live : List Float) (c : Counts) : Type 0 where
@@ -84,17 +86,17 @@ pub record Stepped (w : ℕ) (v : Window) (book : Book) (b : Block) (i : ℕ) (r
 pub record ChosenFrom (w : ℕ) (v : Window) (book : Book) (b : Block) (i : ℕ) (choices : List ℕ) : Type 0 where
   pub each : (j : ℕ) → i ≤ j → j < v.length → ChosenAt w v book b j choices
 
--- the positions from i on are done: the live row is row A where `in_a`, else row B
-pub record Rowed (w : ℕ) (v : Window) (book : Book) (b : Block) (i : ℕ) (row_a row_b : List Float) (choices : List ℕ) (s : Step) (in_a : Bool) : Type 0 where
-  pub live : RowAt w v book b i (cond in_a row_a row_b) s.counts
+-- the positions from i on are done: the live row is the first where `in_first`, else the second
+pub record Rowed (w : ℕ) (v : Window) (book : Book) (b : Block) (i : ℕ) (first second : List Float) (choices : List ℕ) (s : Step) (in_first : Bool) : Type 0 where
+  pub live : RowAt w v book b i (cond in_first first second) s.counts
   pub chosen : ChosenFrom w v book b i choices
   pub after_is : s.after ≡ input_remaining b (covered b + i)
   pub counts_are : i < v.length → CountsAt w v b i s.counts
 
--- the rows' lengths and the choices' stay
-pub record RoomKept (a a' b b' : List Float) (c c' : List ℕ) : Type 0 where
-  pub row_a : length a' ≡ length a
-  pub row_b : length b' ≡ length b
+-- a row's length and the choices' stay
+pub record Kept (a a' b b' : List Float) (c c' : List ℕ) : Type 0 where
+  pub first : length a' ≡ length a
+  pub second : length b' ≡ length b
   pub choices : length c' ≡ length c
 
 -- the first pair of a row is the tail's, for `prev` 0 and 1
@@ -102,11 +104,11 @@ pub record TailRow (v : Window) (book : Book) (b : Block) (row : List Float) : T
   pub zero : get_or row 0 nan ≡ (tail_of v book b).cost 0
   pub one : get_or row 1 nan ≡ (tail_of v book b).cost 1
 
--- what the code is handed of a block before its last position is taken, the tail's row as row A ..
-pub record TailFor (book : Book) (scan : List ℕ) (source inverse : List Float) (levels : List ℤ) (p : Plan) (past : ℕ) (row_a : List Float) : Type 0 where
+-- what the code is handed of a block before its last position is taken, the tail's row as `first` ..
+pub record TailFor (book : Book) (scan : List ℕ) (source inverse : List Float) (levels : List ℤ) (p : Plan) (past : ℕ) (first : List Float) : Type 0 where
   pub searched : Searched book scan source inverse levels p
   pub past_is : past ≡ past_window p.window searched.block
-  pub row_is : TailRow p.window book searched.block row_a
+  pub row_is : TailRow p.window book searched.block first
 
 -- .. and before position i, the row after it as `next`
 pub record NextFor (w : ℕ) (book : Book) (scan : List ℕ) (source inverse : List Float) (levels : List ℤ) (p : Plan) (past i after : ℕ) (next : List Float) (c : Counts) : Type 0 where
@@ -114,3 +116,7 @@ pub record NextFor (w : ℕ) (book : Book) (scan : List ℕ) (source inverse : L
   pub past_is : past ≡ past_window p.window searched.block
   pub after_is : after ≡ input_remaining searched.block (covered searched.block + suc i)
   pub row_is : RowAt w p.window book searched.block (suc i) next c
+
+-- a cost that is below the least so far takes its place
+unfoldable pub considered : Best → Float → ℕ → Best
+considered best x n = cond (lt x best.cost) (record { cost = x; count = n }) best

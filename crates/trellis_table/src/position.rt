@@ -1,18 +1,22 @@
 // One position of the trellis, its row from the row after it.
 ghost use Rattle.std.specs.Prelude.{◌≡◌, cond, eqb, ◌+◌, ◌-◌, ◌*◌, ◌<◌, ◌≤◌, max, min, length};
 ghost use Rattle.block.specs.Checks.{choice_bytes, states};
+ghost use Rattle.candidates.specs.Candidates.{in_array};
+ghost use Rattle.half_bytes.specs.Packed.{unpacked};
 ghost use Rattle.prices.specs.Book.{book_in};
-ghost use Rattle.trellis_table.specs.Rows.{lowest_count, rise_at, NextFor, Stepped};
+ghost use Rattle.trellis_choice.specs.Locals.{listed};
+ghost use Rattle.trellis_row.specs.Row.{RowIs, Elsewhere, Workable};
+ghost use Rattle.trellis_table.specs.Rows.{least_count, rise_at, NextFor, Stepped};
 
-use crate::filling::fill_row;
+use steps::Place;
 use steps::reading::Plan;
 use trellis_row::row::Span;
 
 // The counts that a row holds.
 #[derive(Drop)]
 pub struct Counts {
-    pub lowest: usize,
-    pub highest: usize,
+    pub least: usize,
+    pub most: usize,
 }
 
 // A position's row, and the nonzero input levels from the position on.
@@ -40,8 +44,8 @@ fn less(a: usize, width: usize) -> usize
     if a < width { 0 } else { a - width }
 }
 
-pub fn lowest_count(past: usize, after: usize, width: usize) -> usize
-    ensures { result ≡ lowest_count width past after }
+pub fn least_count(past: usize, after: usize, width: usize) -> usize
+    ensures { result ≡ least_count width past after }
 {
     larger(past, less(after, width))
 }
@@ -79,13 +83,50 @@ fn last_count(
 // What the band and the next row have in common.
 fn span_of(after: usize, next: Counts, width: usize) -> Span
     requires { (after ≤ 65536) × (width ≤ 12) }
-    ensures { (result.base ≡ next.lowest) × ((result.from ≡ max (after - width) next.lowest) × (result.upto ≡ min (after + width) next.highest)) }
+    ensures { (result.base ≡ next.least) × ((result.from ≡ max (after - width) next.least) × (result.upto ≡ min (after + width) next.most)) }
 {
     Span {
-        base: next.lowest,
-        from: larger(less(after, width), next.lowest),
-        upto: smaller(after + width, next.highest),
+        base: next.least,
+        from: larger(less(after, width), next.least),
+        upto: smaller(after + width, next.most),
     }
+}
+
+// A row of a position: factored, or edge by edge.
+fn fill_row(
+    factored: bool,
+    map: &[u8],
+    configs: &[u8],
+    symbols: &[f32],
+    ready: &[f32],
+    place: Place,
+    levels: &[i32; 5],
+    count: usize,
+    next: &[f32],
+    span: Span,
+    current: &mut [f32],
+    choices: &mut [u8],
+    at: usize,
+    least: usize,
+    most: usize,
+)
+    requires workable { Workable (book_in map.now configs.now symbols.now ready.now) place (in_array count levels.now) next.now span most }
+    requires least_le_most { (least ≤ most) × ((2 * (most - least) + 1 < length current.old) × (2 * at + 2 * (most - least) + 1 < length (unpacked choices.old))) }
+    ensures current_len_unchanged { length current.new ≡ length current.old }
+    ensures elsewhere { Elsewhere (2 * at) (2 * (most + 1 - least)) (unpacked choices.old) (unpacked choices.new) }
+    ensures row_is { RowIs (book_in map.now configs.now symbols.now ready.now) place (listed (in_array count levels.now)) next.now span least (2 * at) (2 * (most + 1 - least)) current.new (unpacked choices.new) }
+{
+    if factored {
+        trellis_sole::fill_row(
+            map, configs, symbols, ready, place, levels, count, next, span, current, choices, at,
+            least, most,
+        );
+        return;
+    }
+    trellis_edges::fill_row(
+        map, configs, symbols, ready, place, levels, count, next, span, current, choices, at,
+        least, most,
+    );
 }
 
 pub fn take_position(
@@ -122,8 +163,8 @@ pub fn take_position(
     let left = window.length - 1 - i;
     let rise = rise(window.restoring, i, offer.level);
     let counts = Counts {
-        lowest: lowest_count(past, after, width),
-        highest: last_count(i, past, after, left, width, span.upto, rise),
+        least: least_count(past, after, width),
+        most: last_count(i, past, after, left, width, span.upto, rise),
     };
     fill_row(
         factored,
@@ -139,8 +180,8 @@ pub fn take_position(
         current,
         choices,
         (2 * width + 2) * i,
-        counts.lowest,
-        counts.highest,
+        counts.least,
+        counts.most,
     );
     Step {
         counts,

@@ -86,10 +86,10 @@ zeros-passed =
 abbrev pub problem_at : Float → Problem
 problem_at x = problem_of half_width (window_of (covered zeros)) (checked x) zeros
 
-abbrev pub zeros_problem : Problem
-zeros_problem = problem_at (whole 1)
+abbrev pub problem : Problem
+problem = problem_at (whole 1)
 
-zeros-sound : Sound zeros_problem
+zeros-sound : Sound problem
 zeros-sound = sound (checked (whole 1)) priced-one (window_of (covered zeros)) zeros zeros-passed half_width
 
 -- ---- what is computed
@@ -99,12 +99,12 @@ tried : (x : Float) → (problem_at x).fewest + (problem_at x).width ≡ 8
 unfolding problem_of fewest_count most_count past_window input_after input_remaining nonzeros_among level_at covered nz up_from window_of zeros block_with
 tried x = refl
 
-none-past : zeros_problem.tail.count ≡ 0
+none-past : problem.tail.count ≡ 0
 unfolding problem_of tail_of past_window input_remaining nonzeros_among level_at covered nz up_from window_of zeros block_with
 none-past = refl
 
 -- the token of each of these counts costs lambda
-count-cost : (n : ℕ) → n < 8 → zeros_problem.count_cost n ≡ whole 3
+count-cost : (n : ℕ) → n < 8 → problem.count_cost n ≡ whole 3
 unfolding problem_of count_cost price symbol_at cluster_price cluster_symbol cluster_extra symbol_of extra_bits_of top_bit size context_of fine_block_context block_context channel_row block_context_map strategy_order fine_non_zero_context non_zero_bucket checked zeros block_with up_from add mul of_int
 count-cost zero h = refl
 count-cost (suc zero) h = refl
@@ -120,11 +120,11 @@ count-cost (suc (suc (suc (suc (suc (suc (suc (suc n)))))))) h = absurd (omega a
 abbrev input : List ℤ
 input = input_from zeros (covered zeros) (window_of (covered zeros)).length
 
-input-count : count_of zeros_problem input ≡ 0
+input-count : count_of problem input ≡ 0
 unfolding problem_of tail_of past_window input_remaining nonzeros_among level_at covered nz up_from window_of zeros block_with input_from input_at count_of remaining
 input-count = refl
 
-input-cost : whole_cost zeros_problem input ≡ whole 3
+input-cost : whole_cost problem input ≡ whole 3
 unfolding whole_cost cost_of count_of remaining input_from problem_of positions_from position_at window_of
     lt sub add mul div neg of_int size of_bits
     strategy_order block_context_map channel_row block_context fine_block_context non_zero_bucket fine_non_zero_context fine_zero_density_contexts_offset coeff_freq_context coeff_num_nonzero_context zero_density_context
@@ -152,21 +152,21 @@ three-fits : T (fits binary32 (whole 3))
 unfolding fits of_int
 three-fits = tt
 
-input-banded : Banded zeros_problem input
+input-banded : Banded problem input
 input-banded = Least.input-in-band half_width (window_of (covered zeros)) (checked (whole 1)) priced-one zeros zeros-passed
 
-at_most : T (le (least_total zeros_problem) (whole 3))
+at_most : T (le (least_total problem) (whole 3))
 at_most =
-    subst (λ (x : Float). T (le (least_total zeros_problem) x)) input-cost
+    subst (λ (x : Float). T (le (least_total problem) x)) input-cost
     (Least.none-cheaper half_width (window_of (covered zeros)) (checked (whole 1)) priced-one zeros zeros-passed input input-banded)
 
-answer : Answer zeros_problem
+answer : Answer problem
 answer =
     Least.found half_width (window_of (covered zeros)) (checked (whole 1)) priced-one zeros zeros-passed
-    (le-finite (least_total zeros_problem) (whole 3) (least_total-cost zeros_problem zeros-sound) three-cost at_most three-finite)
+    (le-finite (least_total problem) (whole 3) (least_total-cost problem zeros-sound) three-cost at_most three-finite)
 
-count-below : count_of zeros_problem (least_levels zeros_problem) < 8
-count-below = subst (λ (k : ℕ). count_of zeros_problem (least_levels zeros_problem) < k) (tried (whole 1)) (zeros-sound.covers (least_levels zeros_problem) answer.banded).under
+count-below : count_of problem (least_levels problem) < 8
+count-below = subst (λ (k : ℕ). count_of problem (least_levels problem) < k) (tried (whole 1)) (zeros-sound.covers (least_levels problem) answer.banded).under
 
 -- whatever the levels cost, with the count's token it is lambda at least
 with-count : (x y : Float) → T (cost x) → y ≡ whole 3 → T (le (whole 3) (add binary32 x y))
@@ -174,34 +174,34 @@ with-count x y h e =
     subst⁻¹ (λ (z : Float). T (le (whole 3) (add binary32 x z))) e
     (subst (λ (z : Float). T (le (whole 3) z)) (add-comm-cost binary32 (whole 3) x three-cost h) (le-add binary32 (whole 3) x three-cost h three-fits))
 
-at_least : T (le (whole 3) (least_total zeros_problem))
+at_least : T (le (whole 3) (least_total problem))
 unfolding whole_cost
 at_least =
-    let cs = least_levels zeros_problem in
-    let n = count_of zeros_problem cs in
+    let cs = least_levels problem in
+    let n = count_of problem cs in
     subst (λ (x : Float). T (le (whole 3) x)) answer.costs
-    (with-count (cost_of zeros_problem.tail zeros_problem.positions (zeros_problem.first_prev n) cs) (zeros_problem.count_cost n)
-    (choice-cost zeros_problem.tail (zeros_problem.first_prev n) zeros-sound.priced (zeros-sound.firsts n) answer.banded.choice answer.banded.band) (count-cost n count-below))
+    (with-count (cost_of problem.tail problem.positions (problem.first_prev n) cs) (problem.count_cost n)
+    (choice-cost problem.tail (problem.first_prev n) zeros-sound.priced (zeros-sound.firsts n) answer.banded.choice answer.banded.band) (count-cost n count-below))
 
-total-fits : T (fits binary32 (least_total zeros_problem))
+total-fits : T (fits binary32 (least_total problem))
 unfolding whole_cost
 total-fits = subst (λ (x : Float). T (fits binary32 x)) answer.costs (add-fits binary32 _ _)
 
 -- ---- the answer
 
-pub cost-is-lambda : least_total zeros_problem ≡ zeros.settings.lambda
+pub cost-is-lambda : least_total problem ≡ zeros.settings.lambda
 unfolding zeros block_with
-cost-is-lambda = le_antisymm binary32 (least_total zeros_problem) (whole 3) (least_total-cost zeros_problem zeros-sound) three-cost total-fits three-fits at_most at_least
+cost-is-lambda = le_antisymm binary32 (least_total problem) (whole 3) (least_total-cost problem zeros-sound) three-cost total-fits three-fits at_most at_least
 
-pub count-is-none : least_count zeros_problem ≡ 0
-count-is-none = go (least_count zeros_problem) refl
+pub count-is-none : least_count problem ≡ 0
+count-is-none = go (least_count problem) refl
   where
-    go : (n : ℕ) → least_count zeros_problem ≡ n → least_count zeros_problem ≡ 0
+    go : (n : ℕ) → least_count problem ≡ n → least_count problem ≡ 0
     go zero e = e
     go (suc n) e =
-        let fewer : count_of zeros_problem input < least_count zeros_problem = subst⁻¹ (λ (k : ℕ). k < least_count zeros_problem) input-count (omega (arith, e)) in
-        absurd (lt→not-le (least_total zeros_problem) (whole 3) (least_total-cost zeros_problem zeros-sound) three-cost
-        (subst (λ (x : Float). T (lt (least_total zeros_problem) x)) input-cost (answer.smallest input input-banded fewer)) at_least)
+        let fewer : count_of problem input < least_count problem = subst⁻¹ (λ (k : ℕ). k < least_count problem) input-count (omega (arith, e)) in
+        absurd (lt→not-le (least_total problem) (whole 3) (least_total-cost problem zeros-sound) three-cost
+        (subst (λ (x : Float). T (lt (least_total problem) x)) input-cost (answer.smallest input input-banded fewer)) at_least)
 
 -- levels of which none is nonzero
 all-zero : (cs : List ℤ) → remaining 0 cs ≡ 0 → (i : ℕ) → get_or cs i (pos 0) ≡ pos 0
@@ -212,10 +212,10 @@ all-zero (pos zero ∷ cs) e (suc i) = all-zero cs (omega (arith, e)) i
 all-zero (pos (suc n) ∷ cs) e i = absurd (omega (arith, e))
 all-zero (negsuc n ∷ cs) e i = absurd (omega (arith, e))
 
-pub levels-are-zero : (i : ℕ) → get_or (least_levels zeros_problem) i (pos 0) ≡ pos 0
+pub levels-are-zero : (i : ℕ) → get_or (least_levels problem) i (pos 0) ≡ pos 0
 unfolding count_of
 levels-are-zero =
-    all-zero (least_levels zeros_problem) (subst (λ (s : ℕ). remaining s (least_levels zeros_problem) ≡ 0) none-past (answer.count ∙ count-is-none))
+    all-zero (least_levels problem) (subst (λ (s : ℕ). remaining s (least_levels problem) ≡ 0) none-past (answer.count ∙ count-is-none))
 
 -- ---- Every price +infinity: so is the least cost, and each choice in the band needs a token of infinite price.
 

@@ -15,11 +15,11 @@ pub record Answer : Type 0 where
   pub count : ℕ
   pub levels : List ℤ
 
-abbrev pub answer_with : Float → ℕ → List ℤ → Answer
-answer_with cost count levels = record { cost = cost; count = count; levels = levels }
+abbrev pub answered : Float → ℕ → List ℤ → Answer
+answered cost count levels = record { cost = cost; count = count; levels = levels }
 
 unfoldable pub answer_of : Problem → Answer
-answer_of p = answer_with (least_total p) (least_count p) (least_levels p)
+answer_of p = answered (least_total p) (least_count p) (least_levels p)
 
 -- ---- floats: whole numbers, 1/4 and so on, infinity
 

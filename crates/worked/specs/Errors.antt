@@ -10,7 +10,7 @@ use Rattle.least_cost.specs.Choice.{remaining}
 use Rattle.least_cost.specs.Search.{Problem, least, holder, nonzeros, has_zero, step, up_from, count_of}
 use Rattle.prices.specs.Book.{Book}
 use Rattle.weights.specs.declared.Window.{Window}
-use Rattle.worked.specs.Cases.{Answer, answer_with, whole}
+use Rattle.worked.specs.Cases.{Answer, answered, whole}
 
 -- the whole count is held within the half-width
 unfoldable pub count_held : ℕ → Window → Book → Block → Problem
@@ -46,7 +46,7 @@ answer_zero w =
     let total : ℕ → Float = λ n. add binary32 (best_zero w.tail w.positions n (w.first_prev n)) (w.count_cost n) in
     let counts = up_from w.fewest w.width in
     let n = holder total (inf false) w.fewest counts in
-    answer_with (least total (inf false) counts) n (walk_zero w.tail w.positions n (w.first_prev n))
+    answered (least total (inf false) counts) n (walk_zero w.tail w.positions n (w.first_prev n))
 
 -- a token is charged where nothing remains
 unfoldable pub charged_cost : Book → Block → ℕ → ℕ → ℕ → ℤ → Float

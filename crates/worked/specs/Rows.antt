@@ -7,7 +7,7 @@ use Rattle.block.specs.Cost.{local_cost}
 use Rattle.block.specs.Band.{problem_of, half_width}
 use Rattle.candidates.specs.Candidates.{eq_z}
 use Rattle.least_cost.specs.Search.{Problem, whole_cost}
-use Rattle.worked.specs.Cases.{Answer, answer_with, answer_of, whole, quarter, half, window, flat, apart, block_with, zeros}
+use Rattle.worked.specs.Cases.{Answer, answered, answer_of, whole, quarter, half, window, flat, apart, block_with, zeros}
 use Rattle.worked.specs.Errors.{count_held, answer_zero, always_charged, prev_zero, forward_cost}
 
 pub data Row : Type 0 where
@@ -29,7 +29,7 @@ differ (row f p a) (row g q b) = not (eq a.cost b.cost && eqb a.count b.count &&
 
 -- Document 01: one block, all zero, ideals zero, every symbol price 1, split 4,2,0. The cost is lambda, here 3. (A window of 3; `Zeros` has document 01's.)
 unfoldable pub all_zero : Row
-all_zero = row answer_of (problem_of half_width (window 3 2) (flat (whole 1)) zeros) (answer_with (whole 3) 0 (pos 0 ∷ pos 0 ∷ pos 0 ∷ []))
+all_zero = row answer_of (problem_of half_width (window 3 2) (flat (whole 1)) zeros) (answered (whole 3) 0 (pos 0 ∷ pos 0 ∷ pos 0 ∷ []))
 
 -- The band: three levels of 1 where the ideals are 0. Zeros are the cheapest, but with half-width 1 a nonzero level has to follow the first position.
 unfoldable pub ones : ℕ → Block
@@ -39,26 +39,26 @@ unfoldable pub three_ones : ℕ → Problem
 three_ones w = problem_of w (window 3 0) (flat (whole 1)) (ones 3)
 
 unfoldable pub outside : Row
-outside = row answer_of (three_ones 1) (answer_with (whole 10) 1 (pos 0 ∷ pos 1 ∷ pos 0 ∷ []))
+outside = row answer_of (three_ones 1) (answered (whole 10) 1 (pos 0 ∷ pos 1 ∷ pos 0 ∷ []))
 
 unfoldable pub inside : Row
-inside = row answer_of (three_ones 2) (answer_with (whole 3) 0 (pos 0 ∷ pos 0 ∷ pos 0 ∷ []))
+inside = row answer_of (three_ones 2) (answered (whole 3) 0 (pos 0 ∷ pos 0 ∷ pos 0 ∷ []))
 
 -- Rounding: a level of 4 and an ideal of 3 before 32 tokens at 2^20. The local cost of 3 is below that of 4, the sums with the tail are equal, and 4 stays.
 unfoldable pub long : ℕ → Block
 long n = block_with (fin false 1 (pos 20)) (replicate n (whole 3)) (replicate n (pos 4) ++ replicate 32 (pos 1))
 
 unfoldable pub rounded : Row
-rounded = row answer_of (problem_of half_width (window 1 0) (flat (whole 1)) (long 1)) (answer_with (fin false 37 (pos 20)) 33 (pos 4 ∷ []))
+rounded = row answer_of (problem_of half_width (window 1 0) (flat (whole 1)) (long 1)) (answered (fin false 37 (pos 20)) 33 (pos 4 ∷ []))
 
 -- ---- Document 01's plausible errors, but summing forward: first what is right, then what the error gives
 
 -- Holding the whole count within 6. Seven levels of 1 where the ideals are 0: all may be dropped.
 unfoldable pub falls_by_seven : Row
-falls_by_seven = row answer_of (problem_of half_width (window 7 0) (flat (whole 1)) (ones 7)) (answer_with (whole 3) 0 (replicate 7 (pos 0)))
+falls_by_seven = row answer_of (problem_of half_width (window 7 0) (flat (whole 1)) (ones 7)) (answered (whole 3) 0 (replicate 7 (pos 0)))
 
 unfoldable pub falls_by_six : Row
-falls_by_six = row answer_of (count_held half_width (window 7 0) (flat (whole 1)) (ones 7)) (answer_with (whole 7) 1 (pos 1 ∷ replicate 6 (pos 0)))
+falls_by_six = row answer_of (count_held half_width (window 7 0) (flat (whole 1)) (ones 7)) (answered (whole 7) 1 (pos 1 ∷ replicate 6 (pos 0)))
 
 -- Letting zero win a tie. Two levels of 1 with ideals of 1/2 before a third, 2 being the cheapest count: which of the first two stays makes no difference in cost.
 unfoldable pub halves : Problem
@@ -67,14 +67,14 @@ halves =
     (block_with (whole 3) (half ∷ half ∷ []) (pos 1 ∷ pos 1 ∷ pos 1 ∷ []))
 
 unfoldable pub nonzero_stays : Row
-nonzero_stays = row answer_of halves (answer_with (fin false 19 (negsuc 0)) 2 (pos 1 ∷ pos 0 ∷ []))
+nonzero_stays = row answer_of halves (answered (fin false 19 (negsuc 0)) 2 (pos 1 ∷ pos 0 ∷ []))
 
 unfoldable pub zero_stays : Row
-zero_stays = row answer_zero halves (answer_with (fin false 19 (negsuc 0)) 2 (pos 0 ∷ pos 1 ∷ []))
+zero_stays = row answer_zero halves (answered (fin false 19 (negsuc 0)) 2 (pos 0 ∷ pos 1 ∷ []))
 
 -- Charging a token when nothing remains. All zero again (`all_zero` is right): three tokens at 3 too many.
 unfoldable pub three_tokens : Row
-three_tokens = row answer_of (always_charged half_width (window 3 2) (flat (whole 1)) zeros) (answer_with (whole 12) 0 (pos 0 ∷ pos 0 ∷ pos 0 ∷ []))
+three_tokens = row answer_of (always_charged half_width (window 3 2) (flat (whole 1)) zeros) (answered (whole 12) 0 (pos 0 ∷ pos 0 ∷ pos 0 ∷ []))
 
 -- Taking `prev` as 0 at the first position. A level of 1 with an ideal of 1: its token costs 1 with `prev` 1, 1/4 with 0, so that it is dropped, and would be kept.
 unfoldable pub lone : Problem
@@ -83,10 +83,10 @@ lone =
     (block_with (whole 3) (whole 1 ∷ []) (pos 1 ∷ []))
 
 unfoldable pub prev_one : Row
-prev_one = row answer_of lone (answer_with (fin false 7 (negsuc 1)) 0 (pos 0 ∷ []))
+prev_one = row answer_of lone (answered (fin false 7 (negsuc 1)) 0 (pos 0 ∷ []))
 
 unfoldable pub prev_none : Row
-prev_none = row answer_of (prev_zero lone) (answer_with (fin false 3 (negsuc 0)) 1 (pos 1 ∷ []))
+prev_none = row answer_of (prev_zero lone) (answered (fin false 3 (negsuc 0)) 1 (pos 1 ∷ []))
 
 unfoldable pub rows : List Row
 rows =

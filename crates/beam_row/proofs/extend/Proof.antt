@@ -2,7 +2,7 @@ use Rattle.beam_paths.specs.Path.{Path}
 use Rattle.beam_paths.specs.Step.{extended}
 use Rattle.beam_paths.specs.Held.{PathsFor}
 use Rattle.beam_paths.specs.Entries.{KeptIs}
-use Rattle.beam_row.specs.Held.{spot_of, PositionFor}
+use Rattle.beam_row.specs.Held.{spot_of, Stands}
 use Rattle.least_cost.specs.Position.{Position}
 use Rattle.prices.specs.Book.{book_in}
 use mathlib.Core.List.{List}
@@ -22,7 +22,7 @@ abbrev invariant-loop : tie.invariant-loop
 invariant-loop map configs symbols ready place levels paths distortion nonzero kept₀ j₀ kept j =
     (j ≤ paths.count)
     × ((kept.count ≡ j)
-    × ((q : Position) (xs : List Path) → PositionFor (book_in map configs symbols ready) (spot_of place 1 levels) q → PathsFor xs paths
+    × ((q : Position) (xs : List Path) → Stands (book_in map configs symbols ready) (spot_of place 1 levels) q → PathsFor xs paths
     → KeptIs q xs (extended q (get_or q.candidates 0 (pos 0)) (take j xs)) kept))
 
 abbrev decreases-loop : tie.decreases-loop

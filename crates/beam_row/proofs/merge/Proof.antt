@@ -2,7 +2,7 @@ use Rattle.beam_paths.specs.Path.{Path, ways}
 use Rattle.beam_paths.specs.Step.{counts_named, merged_at}
 use Rattle.beam_paths.specs.Held.{PathsFor}
 use Rattle.beam_paths.specs.Entries.{KeptIs}
-use Rattle.beam_row.specs.Held.{spot_of, PositionFor}
+use Rattle.beam_row.specs.Held.{spot_of, Stands}
 use Rattle.least_cost.specs.Position.{Position}
 use Rattle.prices.specs.Book.{book_in}
 use mathlib.Core.List.{List, []}
@@ -18,15 +18,15 @@ use Rattle.beam_row.proofs.merge.Statement.{statement}
 use Rattle.beam_row.proofs.merge.Tie as tie
 
 abbrev invariant-loop : tie.invariant-loop
-invariant-loop map configs symbols ready place levels candidate-count paths distortion counts remaining costs kept₀ d₀ kept d =
+invariant-loop map configs symbols ready place levels count paths distortion counts remaining costs kept₀ d₀ kept d =
     (d ≤ counts.length)
     × ((kept.count ≤ 3)
     × ((counts.length ≤ 3 → kept.count ≡ d)
-    × ((q : Position) (xs : List Path) → PositionFor (book_in map configs symbols ready) (spot_of place candidate-count levels) q → PathsFor xs paths
+    × ((q : Position) (xs : List Path) → Stands (book_in map configs symbols ready) (spot_of place count levels) q → PathsFor xs paths
     → KeptIs q xs (so_far counts.length (merged_at q (ways xs q.candidates) (take d (counts_named [] xs)))) kept)))
 
 abbrev decreases-loop : tie.decreases-loop
-decreases-loop map configs symbols ready place levels candidate-count paths distortion counts remaining costs kept₀ d₀ kept d = counts.length - d
+decreases-loop map configs symbols ready place levels count paths distortion counts remaining costs kept₀ d₀ kept d = counts.length - d
 
 distortions-requires : tie.Need-distortions-requires invariant-loop decreases-loop
 distortions-requires c κs = search rules

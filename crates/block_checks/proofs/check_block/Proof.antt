@@ -22,12 +22,12 @@ unfolding covered
 returns-2 c = width-refused _ _ _ (sym (c.before.before.before.check-form.ensures _) ∙ c.before.before.if1.false) (failed c.before.valid-width.ensures c.if2.true)
 
 check-content-requires : tie.Need-check-content-requires
-check-content-requires c κs = record { settings = _; bias = _; passed = sym (c.before.before.before.check-form.ensures _) ∙ c.before.before.if1.false }
+check-content-requires c κs = sym (c.before.before.before.check-form.ensures _) ∙ c.before.before.if1.false
 
 returns-3 : tie.Need-returns-3
 unfolding covered
 returns-3 c =
-    c.check-content.ensures _ _
+    c.check-content.ensures
     ∙ sym (width-passed _ _ _ (sym (c.before.before.before.before.check-form.ensures _) ∙ c.before.before.before.if1.false) (held c.before.before.valid-width.ensures c.before.if2.false))
 
 pub check-block-spec : {M : Type 1} → statement M

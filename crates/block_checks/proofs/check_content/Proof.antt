@@ -7,33 +7,32 @@ use Rattle.block_checks.proofs.check_content.Statement.{statement}
 use Rattle.block_checks.proofs.check_content.Tie as tie
 
 covered-blocks-requires : tie.Need-covered-blocks-requires
-covered-blocks-requires c κs = let f = formed _ c.before.before.before.requires.passed in (f.first, f.second)
+covered-blocks-requires c κs = let f = formed _ c.before.before.before.requires in (f.first, f.second)
 
 each-once-requires : tie.Need-each-once-requires
-each-once-requires c κs = scan-short _ c.before.before.before.before.requires.passed c.covered-blocks.ensures
+each-once-requires c κs = scan-short _ c.before.before.before.before.requires c.covered-blocks.ensures
 
 returns : tie.Need-returns
-returns c = λ settings bias. at11 _ _ (failed (eleven _ c.before.each-once.ensures) c.if1.true)
+returns c = at11 _ _ (failed (eleven _ c.before.each-once.ensures) c.if1.true)
 
 levels-within-requires : tie.Need-levels-within-requires
 levels-within-requires c κs =
-    let ok = c.before.before.before.before.before.before.requires.passed in
+    let ok = c.before.before.before.before.before.before.requires in
     let blocks = c.before.before.covered-blocks.ensures in
     ((scanned _ ok blocks (held c.before.each-once.ensures c.if1.false), few _ ok blocks), levels-held _ ok blocks)
 
 returns-2 : tie.Need-returns-2
 returns-2 c =
-    λ settings bias.
     at12 _ _ (held (eleven _ c.before.before.before.each-once.ensures) c.before.before.if1.false)
     (failed (twelve _ c.before.before.before.before.covered-blocks.ensures c.before.levels-within.ensures) c.if2.true)
 
 window-under-requires : tie.Need-window-under-requires
 window-under-requires c κs =
-    few _ c.before.before.before.before.before.before.before.before.requires.passed c.before.before.before.before.covered-blocks.ensures
+    few _ c.before.before.before.before.before.before.before.before.requires c.before.before.before.before.covered-blocks.ensures
 
 ideals-within-requires : tie.Need-ideals-within-requires
 ideals-within-requires c κs =
-    let ok = c.before.before.before.before.before.before.before.before.before.requires.passed in
+    let ok = c.before.before.before.before.before.before.before.before.before.requires in
     let blocks = c.before.before.before.before.before.covered-blocks.ensures in (
       scanned _ ok blocks (held c.before.before.before.before.each-once.ensures c.before.before.before.if1.false),
       (window-held _ ok blocks _ c.window-under.ensures, (source-held _ ok blocks, inverse-held _ ok blocks)),
@@ -41,7 +40,6 @@ ideals-within-requires c κs =
 
 returns-3 : tie.Need-returns-3
 returns-3 c =
-    λ settings bias.
     let blocks = c.before.before.before.before.before.before.before.covered-blocks.ensures in
     passes _ _ (held (eleven _ c.before.before.before.before.before.before.each-once.ensures) c.before.before.before.before.before.if1.false)
     (held (twelve _ blocks c.before.before.before.before.levels-within.ensures) c.before.before.before.if2.false)
@@ -49,7 +47,6 @@ returns-3 c =
 
 returns-4 : tie.Need-returns-4
 returns-4 c =
-    λ settings bias.
     let blocks = c.before.before.before.before.before.before.before.covered-blocks.ensures in
     at13 _ _ (held (eleven _ c.before.before.before.before.before.before.each-once.ensures) c.before.before.before.before.before.if1.false)
     (held (twelve _ blocks c.before.before.before.before.levels-within.ensures) c.before.before.before.if2.false)

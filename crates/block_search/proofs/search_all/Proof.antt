@@ -6,15 +6,12 @@ use Rattle.block_search.proofs.search_all.Statement.{statement}
 use Rattle.block_search.proofs.search_all.Tie as tie
 
 abbrev invariant-loop : tie.invariant-loop
-invariant-loop show number clusters map configs symbols ready head scan source inv-qm levels work₀ choices₀ row-a₀ row-b₀ out₀ used end₀ numbered₀ work choices row_a row_b out end numbered =
+invariant-loop number clusters map configs symbols ready head scan source inv-qm levels work₀ choices₀ row-a₀ row-b₀ out₀ used end₀ numbered₀ work choices row_a row_b out end numbered =
     (length work ≡ length work₀) × ((length choices ≡ length choices₀) × ((length row_a ≡ length row-a₀) × ((length row_b ≡ length row-b₀) × ((end ≤ 65536) × (numbered ≤ 4)))))
 
 abbrev decreases-loop : tie.decreases-loop
-decreases-loop show number clusters map configs symbols ready head scan source inv-qm levels work₀ choices₀ row-a₀ row-b₀ out₀ used end₀ numbered₀ work choices row_a row_b out end numbered =
+decreases-loop number clusters map configs symbols ready head scan source inv-qm levels work₀ choices₀ row-a₀ row-b₀ out₀ used end₀ numbered₀ work choices row_a row_b out end numbered =
     4 - numbered
-
-print-before-requires : tie.Need-print-before-requires invariant-loop decreases-loop
-print-before-requires c κs = search rules
 
 loop-holds : tie.Need-loop-init invariant-loop decreases-loop
 loop-holds c = search rules
@@ -22,8 +19,11 @@ loop-holds c = search rules
 named-requires : tie.Need-named-requires invariant-loop decreases-loop
 named-requires c κs = search rules
 
-search-one-requires : tie.Need-search-one-requires invariant-loop decreases-loop
-search-one-requires c κs = search rules
+run-requires : tie.Need-run-requires invariant-loop decreases-loop
+run-requires c κs = search rules
+
+print-named-requires : tie.Need-print-named-requires invariant-loop decreases-loop
+print-named-requires c κs = search rules
 
 add-numbered : tie.Need-overflow-add-numbered invariant-loop decreases-loop
 add-numbered c = search rules
@@ -55,10 +55,10 @@ search-all-spec =
     (tie.spec
     invariant-loop
     decreases-loop
-    print-before-requires
     loop-holds
     named-requires
-    search-one-requires
+    run-requires
+    print-named-requires
     add-numbered
     loop-less
     loop-again

@@ -5,8 +5,8 @@ use Prim.Native.Nat.{ℕ}
 use Rattle.block.specs.Block.{block_of, covered}
 use Rattle.block.specs.Outcome.{lent_of}
 use Rattle.prices.specs.Book.{book_in}
-use Rattle.search_outcome.specs.Outcome.{search_outcome}
-use Rattle.search_outcome.proofs.Results.{whole}
+use Rattle.searches.specs.Outcome.{search_outcome}
+use Rattle.searches.proofs.Results.{whole}
 use Rattle.weights.specs.Window.{window_of}
 use Rattle.group_block.proofs.Parts.{part-result}
 use borrow.Author.Rules.{rules}

@@ -6,7 +6,7 @@ use native.Mathlib.Numerals.{add-one-le}
 use native.Mathlib.Omega.{arith}
 use lib.ListN.{length, set, drop, replicate, length-set}
 use lib.Ieee.{Float, inf}
-use Rattle.rooms.proofs.Fill.{fill_more, all-filled}
+use Rattle.rooms.proofs.Fill.{fill_more, filled}
 use borrow.Author.Rules.{rules}
 use Rattle.rooms.proofs.clear_choices.Statement.{statement}
 use Rattle.rooms.proofs.clear_choices.Tie as tie
@@ -43,7 +43,7 @@ same_length c = search rules
 returns : tie.Need-returns invariant-loop decreases-loop
 returns c =
     let at = c.before.loop in
-    all-filled at.i 255 c.before.before.args.choices.now (subst (λ (k : ℕ). at.i ≤ k) at.invariant.0 at.invariant.1.0) (subst (λ (k : ℕ). k ≤ at.i) at.invariant.0 c.loop-test.false) at.invariant.1.1.0
+    filled at.i 255 c.before.before.args.choices.now (subst (λ (k : ℕ). at.i ≤ k) at.invariant.0 at.invariant.1.0) (subst (λ (k : ℕ). k ≤ at.i) at.invariant.0 c.loop-test.false) at.invariant.1.1.0
 
 pub clear-choices-spec : {M : Type 1} → statement M
 clear-choices-spec =

@@ -3,9 +3,9 @@ use mathlib.Core.Path.{◌≡◌, sym, ap}
 use Prim.Native.Nat.{ℕ}
 use lib.Dec.{lit≤}
 use Rattle.block.specs.Checks.{choice_bytes, states}
-use Rattle.search_outcome.specs.Outcome.{asked_by}
-use Rattle.search_outcome.specs.declared.Search.{Search}
-use Rattle.search_outcome.specs.declared.Search.TheVariants.{Trellis, Unfactored}
+use Rattle.searches.specs.Outcome.{asked_by}
+use Rattle.searches.specs.declared.Search.{Search}
+use Rattle.searches.specs.declared.Search.TheVariants.{Trellis, Unfactored}
 use borrow.Author.Rules.{rules}
 use Rattle.searches.proofs.asked_by.Statement.{statement}
 use Rattle.searches.proofs.asked_by.Tie as tie

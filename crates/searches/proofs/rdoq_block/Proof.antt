@@ -1,6 +1,6 @@
 -- `rdoq_block` meets its contract. Assumes nothing.
 use lib.Dec.{lit≤}
-use Rattle.search_outcome.proofs.Results.{whole}
+use Rattle.searches.proofs.Results.{whole}
 use borrow.Author.Rules.{rules}
 use Rattle.searches.proofs.rdoq_block.Statement.{statement}
 use Rattle.searches.proofs.rdoq_block.Tie as tie

@@ -1,8 +1,7 @@
 -- `rdoq_block_checked` meets its contract. Assumes nothing.
 use mathlib.Core.Path.{refl, sym, ◌∙◌}
 use Rattle.block_checks.proofs.Laws.{passed}
-use Rattle.search_outcome.proofs.Results.{by-check, refused-outcome, let-pass, promised}
-use Rattle.searches.proofs.Accepting.{searchable}
+use Rattle.searches.proofs.Results.{by-check, refused-outcome, let-pass, searchable, promised}
 use borrow.Author.Rules.{rules}
 use Rattle.searches.proofs.rdoq_block_checked.Statement.{statement}
 use Rattle.searches.proofs.rdoq_block_checked.Tie as tie

@@ -2,7 +2,7 @@
 use mathlib.Core.Path.{refl, sym, ◌∙◌}
 use Rattle.block_checks.proofs.Laws.{passed}
 use Rattle.prices.proofs.Passed.{listed-passed}
-use Rattle.search_outcome.proofs.Results.{by-book, refused-outcome, from-lists, promised}
+use Rattle.searches.proofs.Results.{by-book, refused-outcome, from-lists, promised}
 use borrow.Author.Rules.{rules}
 use Rattle.searches.proofs.rdoq_block_in.Statement.{statement}
 use Rattle.searches.proofs.rdoq_block_in.Tie as tie

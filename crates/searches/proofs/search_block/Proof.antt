@@ -1,6 +1,5 @@
 -- `search_block` meets its contract. Assumes nothing.
-use Rattle.search_outcome.proofs.Results.{greedy-searched, beam-searched, trellis-searched, unfactored-searched}
-use Rattle.searches.proofs.Accepting.{beam-room, trellis-room, unfactored-room}
+use Rattle.searches.proofs.Results.{beam-room, trellis-room, unfactored-room, greedy-searched, beam-searched, trellis-searched, unfactored-searched}
 use borrow.Author.Rules.{rules}
 use Rattle.searches.proofs.search_block.Statement.{statement}
 use Rattle.searches.proofs.search_block.Tie as tie

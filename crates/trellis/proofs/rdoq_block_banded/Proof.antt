@@ -5,7 +5,7 @@ use lib.Dec.{lit≤}
 use Rattle.block_checks.proofs.Laws.{passed}
 use Rattle.search_checks.proofs.Refusing.{accepted-listed, accepted-room, accepted-width}
 use Rattle.trellis.proofs.Banded.{by-check, refused-banded, let-pass, roomy_of, whole}
-use Rattle.trellis_outcome.proofs.Demand.{promised}
+use Rattle.trellis.proofs.Demand.{promised}
 use borrow.Author.Rules.{rules}
 use Rattle.trellis.proofs.rdoq_block_banded.Statement.{statement}
 use Rattle.trellis.proofs.rdoq_block_banded.Tie as tie

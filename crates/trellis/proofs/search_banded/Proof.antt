@@ -19,7 +19,7 @@ search-requires c κs =
     let plan = c.before.before.before.before.plan-of.ensures in
     let R = room-kept (window-of _ _ plan.1.1) pre.1.1 in (
       (pre.0, searched-of _ (checked-of _ _ plan.1.1 pre.1.0 (planned-lists _ plan.0 _ _ _ _) plan.1.0)),
-      (R.row_a, (R.row_b, R.choices_long)),
+      (R.first, (R.second, R.choices_long)),
     )
 
 write-found-requires : tie.Need-write-found-requires
@@ -64,7 +64,7 @@ returns c =
     let found = searched.search.ensures in
     let K = checked-of _ _ plan.1.1 pre.1.0 (planned-lists _ plan.0 _ _ _ _) plan.1.0 in
     let done = done-answer pre.0 K (found.1 (searched-of _ K)) (still-long found.0.choices (room-kept (window-of _ _ plan.1.1) pre.1.1).choices_long) wrote.write-found.ensures in
-    searched-banded _ _ _ _ _ (windowed-answer _ _ _ (window-of _ _ plan.1.1) done) cleared.clear-choices.ensures found.0.choices row-cleared.clear-row.ensures found.0.row_a c.before.before.clear-row2.ensures found.0.row_b
+    searched-banded _ _ _ _ _ (windowed-answer _ _ _ (window-of _ _ plan.1.1) done) cleared.clear-choices.ensures found.0.choices row-cleared.clear-row.ensures found.0.first c.before.before.clear-row2.ensures found.0.second
 
 pub search-banded-spec : {M : Type 1} → statement M
 search-banded-spec =

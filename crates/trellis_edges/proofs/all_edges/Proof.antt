@@ -12,11 +12,11 @@ use Rattle.trellis_edges.proofs.all_edges.Statement.{statement}
 use Rattle.trellis_edges.proofs.all_edges.Tie as tie
 
 abbrev invariant-loop : tie.invariant-loop
-invariant-loop map configs symbols ready place levels candidate-count distortion next span current₀ choices₀ at lowest highest end n₀ current choices n =
-    Going (book_in map configs symbols ready) place (in_array candidate-count levels) next span lowest highest (2 * at) n current₀ current (unpacked choices₀) (unpacked choices)
+invariant-loop map configs symbols ready place levels count distortion next span current₀ choices₀ at least most end n₀ current choices n =
+    Going (book_in map configs symbols ready) place (in_array count levels) next span least most (2 * at) n current₀ current (unpacked choices₀) (unpacked choices)
 
 abbrev decreases-loop : tie.decreases-loop
-decreases-loop map configs symbols ready place levels candidate-count distortion next span current₀ choices₀ at lowest highest end n₀ current choices n = end + 1 - n
+decreases-loop map configs symbols ready place levels count distortion next span current₀ choices₀ at least most end n₀ current choices n = end + 1 - n
 
 last-count-requires : tie.Need-last-count-requires invariant-loop decreases-loop
 last-count-requires c κs = search rules

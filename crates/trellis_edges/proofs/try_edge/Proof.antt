@@ -23,29 +23,35 @@ add_r : tie.Need-overflow-add-r
 add_r c =
     let pre = c.before.before.before.before.before.before.before.before.before.requires in
     let one : c.nonzero.result ≤ 1 = rw c.nonzero.ensures (nz-le _) in
-    record { fits = omega (arith, pre.1.1, pre.0.workable.left, covered-most pre.0.workable.covers) }
+    record { fits = omega (arith, pre.1.1.1.0.0, pre.0.left, covered-most pre.0.covers) }
 
 returns : tie.Need-returns
-returns c = (
-  refl,
-  (
-    elsewhere-all _ _ _,
-    λ e. outside e.workable (listed_below e.workable.usable _ e.taken) e.tried (usable-listed e.workable.usable _ e.taken) c.before.nonzero.ensures refl (λ low high. absurd (omega (arith, c.if1.true))),
-  ),
-)
+returns c =
+    let pre = c.before.before.before.before.before.before.before.before.before.before.requires in
+    let usable = pre.0.usable in
+    let listed = pre.1.1.1.0.1 in (
+      refl,
+      (
+        elsewhere-all _ _ _,
+        outside pre.0 (listed_below usable _ listed) pre.1.1.1.1 (usable-listed usable _ listed) c.before.nonzero.ensures refl (λ low high. absurd (omega (arith, c.if1.true))),
+      ),
+    )
 
 returns-2 : tie.Need-returns-2
-returns-2 c = (
-  refl,
-  (
-    elsewhere-all _ _ _,
-    λ e. outside e.workable (listed_below e.workable.usable _ e.taken) e.tried (usable-listed e.workable.usable _ e.taken) c.before.before.nonzero.ensures refl (λ low high. absurd (omega (arith, c.if2.true))),
-  ),
-)
+returns-2 c =
+    let pre = c.before.before.before.before.before.before.before.before.before.before.before.requires in
+    let usable = pre.0.usable in
+    let listed = pre.1.1.1.0.1 in (
+      refl,
+      (
+        elsewhere-all _ _ _,
+        outside pre.0 (listed_below usable _ listed) pre.1.1.1.1 (usable-listed usable _ listed) c.before.before.nonzero.ensures refl (λ low high. absurd (omega (arith, c.if2.true))),
+      ),
+    )
 
 tail-at-requires : tie.Need-tail-at-requires
 tail-at-requires c κs =
-    let work = c.before.before.before.before.before.before.before.before.before.before.before.requires.0.workable in
+    let work = c.before.before.before.before.before.before.before.before.before.before.before.requires.0 in
     (work.starts, (work.room, rw c.before.before.nonzero.ensures (nz-le _)))
 
 infinity-requires : tie.Need-infinity-requires
@@ -63,28 +69,28 @@ element-copy-out-local-pair c = search rules
 local-pair-requires : tie.Need-local-pair-requires
 local-pair-requires c κs =
     let start = c.before.before.before.before.before.before.before.before.before.before.before.before.before.before.before.before in
-    let edge = start.requires.0 in
-    let usable = edge.workable.usable in (
-      edge.workable.priced,
+    let usable = start.requires.0.usable in
+    let listed = start.requires.1.1.1.0.1 in (
+      start.requires.0.priced,
       (
         c.before.context.ensures.1,
         (
-          usable-level usable _ edge.taken,
-          edge.distortions.at _ (listed_below usable _ edge.taken) ∙ ap (distortion_at start.args.place) (sym (usable-listed usable _ edge.taken)),
+          usable-level usable _ listed,
+          start.requires.1.0.at _ (listed_below usable _ listed) ∙ ap (distortion_at start.args.place) (sym (usable-listed usable _ listed)),
         ),
       ),
     )
 
 cast-update-pair : tie.Need-overflow-cast-update-pair
-cast-update-pair c = let pre = c.before.before.before.before.before.before.before.before.before.before.before.before.before.before.before.before.before.requires in record { fits = omega (arith, pre.0.taken, pre.0.workable.usable.few) }
+cast-update-pair c = let pre = c.before.before.before.before.before.before.before.before.before.before.before.before.before.before.before.before.before.requires in record { fits = omega (arith, pre.1.1.1.0.1, pre.0.usable.few) }
 
 update-pair-requires : tie.Need-update-pair-requires
 update-pair-requires c κs =
-    let rooms = c.before.before.before.before.before.before.before.before.before.before.before.before.before.before.before.before.before.before.before.requires.1.0 in
+    let rooms = c.before.before.before.before.before.before.before.before.before.before.before.before.before.before.before.before.before.before.before.requires.1.1.0 in
     let low = c.before.before.before.before.before.before.before.before.before.if1.false in
     let high = c.before.before.before.before.before.before.before.before.if2.false in
-    let edge = c.before.before.before.before.before.before.before.before.before.before.before.before.before.before.before.before.before.before.before.requires.0 in
-    (omega (arith, rooms.1.0, low, high), (omega (arith, rooms.1.1, low, high), omega (arith, edge.taken, edge.workable.usable.few)))
+    let listed = c.before.before.before.before.before.before.before.before.before.before.before.before.before.before.before.before.before.before.before.requires in
+    (omega (arith, rooms.1.0, low, high), (omega (arith, rooms.1.1, low, high), omega (arith, listed.1.1.1.0.1, listed.0.usable.few)))
 
 same_length : tie.Need-same-length
 same_length c = search rules
@@ -95,7 +101,9 @@ same-length-2 c = search rules
 returns-3 : tie.Need-returns-3
 returns-3 c =
     let pre = c.before.before.before.before.before.before.before.before.before.before.before.before.before.before.before.before.before.before.before.before.before.before.before.before.requires in
-    let rooms = pre.1.0 in
+    let usable = pre.0.usable in
+    let listed = pre.1.1.1.0.1 in
+    let rooms = pre.1.1.0 in
     let low = c.before.before.before.before.before.before.before.before.before.before.before.before.before.before.if1.false in
     let high = c.before.before.before.before.before.before.before.before.before.before.before.before.before.if2.false in
     let local = c.before.before.before.before.before.before.before.local-pair.ensures in
@@ -103,19 +111,22 @@ returns-3 c =
       updated-size updated,
       (
         updated-elsewhere _ (omega (arith, low, high)) updated,
-        λ e. edge e.workable (listed_below e.workable.usable _ e.taken) e.tried (usable-listed e.workable.usable _ e.taken) c.before.before.before.before.before.before.before.before.before.before.before.before.before.before.before.nonzero.ensures refl low high c.before.before.before.before.before.before.before.before.before.before.before.before.tail_at.ensures c.before.before.before.before.before.before.before.before.before.context.ensures.0 local.0 local.1
+        edge pre.0 (listed_below usable _ listed) pre.1.1.1.1 (usable-listed usable _ listed) c.before.before.before.before.before.before.before.before.before.before.before.before.before.before.before.nonzero.ensures refl low high c.before.before.before.before.before.before.before.before.before.before.before.before.tail_at.ensures c.before.before.before.before.before.before.before.before.before.context.ensures.0 local.0 local.1
             (omega (arith, rooms.1.0, low, high)) (omega (arith, rooms.1.1, low, high)) updated,
       ),
     )
 
 returns-4 : tie.Need-returns-4
-returns-4 c = (
-  refl,
-  (
-    elsewhere-all _ _ _,
-    λ e. dead e.workable (listed_below e.workable.usable _ e.taken) e.tried (usable-listed e.workable.usable _ e.taken) c.before.before.before.before.before.nonzero.ensures refl c.before.before.tail_at.ensures c.before.infinity.ensures c.if3.false,
-  ),
-)
+returns-4 c =
+    let pre = c.before.before.before.before.before.before.before.before.before.before.before.before.before.before.requires in
+    let usable = pre.0.usable in
+    let listed = pre.1.1.1.0.1 in (
+      refl,
+      (
+        elsewhere-all _ _ _,
+        dead pre.0 (listed_below usable _ listed) pre.1.1.1.1 (usable-listed usable _ listed) c.before.before.before.before.before.nonzero.ensures refl c.before.before.tail_at.ensures c.before.infinity.ensures c.if3.false,
+      ),
+    )
 
 pub try-edge-spec : {M : Type 1} → statement M
 try-edge-spec =

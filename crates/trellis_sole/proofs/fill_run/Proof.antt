@@ -14,11 +14,11 @@ use Rattle.trellis_sole.proofs.fill_run.Statement.{statement}
 use Rattle.trellis_sole.proofs.fill_run.Tie as tie
 
 abbrev invariant-loop : tie.invariant-loop
-invariant-loop level distortion token next span current₀ choices₀ at lowest from upto r₀ current choices r =
-    Ran (λ book x n. SoleReady book x next span (to_z w32 level) distortion token n) (to_z w32 level ∷ []) next span (2 * at) lowest from upto r current₀ current (unpacked choices₀) (unpacked choices)
+invariant-loop level distortion token next span current₀ choices₀ at least from upto r₀ current choices r =
+    Ran (λ book x n. SoleReady book x next span (to_z w32 level) distortion token n) (to_z w32 level ∷ []) next span (2 * at) least from upto r current₀ current (unpacked choices₀) (unpacked choices)
 
 abbrev decreases-loop : tie.decreases-loop
-decreases-loop level distortion token next span current₀ choices₀ at lowest from upto r₀ current choices r = upto + 1 - r
+decreases-loop level distortion token next span current₀ choices₀ at least from upto r₀ current choices r = upto + 1 - r
 
 loop-holds : tie.Need-loop-init invariant-loop decreases-loop
 loop-holds c = ran-none _ _ _ _ _ _ _ _ _ _ c.before.before.before.requires.1.0.1.0

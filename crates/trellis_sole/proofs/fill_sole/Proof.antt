@@ -1,4 +1,4 @@
-use Rattle.trellis_row.proofs.Rows.{RowSoFar, so-far-none, so_far_more, coding-of}
+use Rattle.trellis_row.proofs.Rows.{SoFar, so-far-none, so_far_more, coding-of}
 use Rattle.trellis_sole.proofs.Sole.{count-first, listed-one, sole-ready}
 use Rattle.ac_context.proofs.Bounds.{covered-most}
 use Rattle.steps.proofs.Listed.{usable-back, usable-level}
@@ -16,11 +16,11 @@ use Rattle.trellis_sole.proofs.fill_sole.Statement.{statement}
 use Rattle.trellis_sole.proofs.fill_sole.Tie as tie
 
 abbrev invariant-loop : tie.invariant-loop
-invariant-loop map configs symbols ready place levels next span current₀ choices₀ at lowest highest level distortion r₀ current choices r =
-    RowSoFar (book_in map configs symbols ready) place (to_z w32 level ∷ []) next span (2 * at) lowest highest r current₀ current (unpacked choices₀) (unpacked choices)
+invariant-loop map configs symbols ready place levels next span current₀ choices₀ at least most level distortion r₀ current choices r =
+    SoFar (book_in map configs symbols ready) place (to_z w32 level ∷ []) next span (2 * at) least most r current₀ current (unpacked choices₀) (unpacked choices)
 
 abbrev decreases-loop : tie.decreases-loop
-decreases-loop map configs symbols ready place levels next span current₀ choices₀ at lowest highest level distortion r₀ current choices r = highest + 1 - r
+decreases-loop map configs symbols ready place levels next span current₀ choices₀ at least most level distortion r₀ current choices r = most + 1 - r
 
 element-copy-out-level : tie.Need-element-copy-out-level invariant-loop decreases-loop
 element-copy-out-level c = search rules
@@ -94,7 +94,7 @@ returns : tie.Need-returns invariant-loop decreases-loop
 returns c =
     let start = c.before.before.before.before.before.before.before.before.before.before.before in
     let inv = c.before.loop.invariant in
-    let last : c.before.loop.r ≡ start.args.highest + 1 = omega (arith, inv.upto, c.loop-test.false) in
+    let last : c.before.loop.r ≡ start.args.most + 1 = omega (arith, inv.upto, c.loop-test.false) in
     let one = listed-one start.requires.0.usable refl in
     (inv.size, (rw last at inv.elsewhere, rw one (rw (last, usable-back start.requires.0.usable 0 (count-first refl)) at inv.done)))
 

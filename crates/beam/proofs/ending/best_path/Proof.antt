@@ -5,31 +5,31 @@ use Rattle.beam_paths.specs.Held.{PathsFor}
 use Rattle.block.specs.Block.{Block}
 use Rattle.prices.specs.Book.{book_in}
 use Rattle.steps.specs.Plan.{Planned}
-use Rattle.beam.specs.Beam.{beam_problem}
+use Rattle.beam.specs.Beam.{problem}
 use Rattle.beam.specs.Held.{paths}
-use Rattle.beam.proofs.Ends.{PathsLeft, paths-start, paths-more, paths-end}
+use Rattle.beam.proofs.Ends.{Sofar, sofar-start, sofar-more, sofar-end}
 use borrow.Author.Rules.{rules}
 use Rattle.beam.proofs.ending.best_path.Statement.{statement}
 use Rattle.beam.proofs.ending.best_path.Tie as tie
 use Rattle.beam.proofs.ending.best_path.Reads as reads
 use Rattle.beam.proofs.ending.best_path.Lts as lts
-use Rattle.search_checks.proofs.best.Best.consider.Reads as consider-reads
-use Rattle.search_checks.proofs.best.Best.none.Reads as none_reads
+use Rattle.beam.proofs.ending.Best.consider.Reads as consider-reads
 use Rattle.beam.proofs.ending.total_of.Reads as total-of-reads
+use Rattle.costs.proofs.infinity.Reads as infinity-reads
 
 abbrev invariant-loop : tie.invariant-loop
 invariant-loop map configs symbols ready plan kept best₀ j₀ j-end best j =
-    (j-end ≡ kept.count) × ((j ≤ j-end) × ((b : Block) → Planned b plan → PathsFor (paths plan.window (book_in map configs symbols ready) b 0) kept → PathsLeft (beam_problem plan.window (book_in map configs symbols ready) b) (paths plan.window (book_in map configs symbols ready) b 0) j best))
+    (j-end ≡ kept.count) × ((j ≤ j-end) × ((b : Block) → Planned b plan → PathsFor (paths plan.window (book_in map configs symbols ready) b 0) kept → Sofar (problem plan.window (book_in map configs symbols ready) b) (paths plan.window (book_in map configs symbols ready) b 0) j best))
 
 abbrev decreases-loop : tie.decreases-loop
 decreases-loop map configs symbols ready plan kept best₀ j₀ j-end best j =
     j-end - j
 
-none-requires : tie.Need-none-requires invariant-loop decreases-loop
-none-requires c κs = search rules
+infinity-requires : tie.Need-infinity-requires invariant-loop decreases-loop
+infinity-requires c κs = search rules
 
 loop-holds : tie.Need-loop-init invariant-loop decreases-loop
-loop-holds c = (refl, (zero-le, λ b w F. paths-start _ _ c.none.ensures (omega (arith, F.few, F.count_is))))
+loop-holds c = (refl, (zero-le, λ b w F. sofar-start _ _ _ c.infinity.ensures (omega (arith, F.few, F.count_is))))
 
 total-of-requires : tie.Need-total-of-requires invariant-loop decreases-loop
 total-of-requires c κs = (c.before.before.before.before.before.before.before.requires, omega (arith, c.before.loop.invariant.0, c.loop-test.true))
@@ -47,12 +47,12 @@ loop-again : tie.Need-loop-preserved invariant-loop decreases-loop
 loop-again c =
     let inv = c.before.before.before.loop.invariant in
     let here = c.before.before.loop-test.true in
-    (inv.0, (omega arith, λ b w F. paths-more (omega (arith, F.count_is, inv.0)) (c.before.total_of.ensures b _ w F) c.consider.ensures (inv.1.1 b w F)))
+    (inv.0, (omega arith, λ b w F. sofar-more (omega (arith, F.count_is, inv.0)) (c.before.total_of.ensures b _ w F) c.consider.ensures (inv.1.1 b w F)))
 
 returns : tie.Need-returns invariant-loop decreases-loop
 returns c =
     let inv = c.before.loop.invariant in
-    λ b w F. paths-end _ _ b (omega (arith, F.count_is, inv.0, c.loop-test.false)) (inv.1.1 b w F)
+    λ b w F. sofar-end _ _ b (omega (arith, F.count_is, inv.0, c.loop-test.false)) (inv.1.1 b w F)
 
 pub best-path-spec : {M : Type 1} → statement M
 best-path-spec =
@@ -60,7 +60,7 @@ best-path-spec =
     (tie.spec
     invariant-loop
     decreases-loop
-    none-requires
+    infinity-requires
     loop-holds
     total-of-requires
     consider-requires

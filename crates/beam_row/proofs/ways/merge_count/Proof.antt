@@ -1,6 +1,6 @@
 use Rattle.beam_paths.specs.Path.{Path, ways}
 use Rattle.beam_paths.specs.Held.{PathsFor}
-use Rattle.beam_row.specs.Held.{spot_of, PositionFor}
+use Rattle.beam_row.specs.Held.{spot_of, Stands}
 use Rattle.beam_row.specs.Entries.{gathered, BothOf}
 use Rattle.least_cost.specs.Position.{Position}
 use Rattle.prices.specs.Book.{book_in}
@@ -17,13 +17,13 @@ use Rattle.beam_row.proofs.ways.merge_count.Statement.{statement}
 use Rattle.beam_row.proofs.ways.merge_count.Tie as tie
 
 abbrev invariant-loop : tie.invariant-loop
-invariant-loop map configs symbols ready place levels distortion candidate-count paths remaining costs n context entry₀ j₀ entry j =
+invariant-loop map configs symbols ready place levels distortion count paths remaining costs n context entry₀ j₀ entry j =
     (j ≤ paths)
     × ((entry.remaining ≡ n)
-    × ((q : Position) (xs : List Path) → PositionFor (book_in map configs symbols ready) (spot_of place candidate-count levels) q → PathsFor xs (gathered paths remaining costs) → BothOf q xs (ways (take j xs) q.candidates) entry))
+    × ((q : Position) (xs : List Path) → Stands (book_in map configs symbols ready) (spot_of place count levels) q → PathsFor xs (gathered paths remaining costs) → BothOf q xs (ways (take j xs) q.candidates) entry))
 
 abbrev decreases-loop : tie.decreases-loop
-decreases-loop map configs symbols ready place levels distortion candidate-count paths remaining costs n context entry₀ j₀ entry j = paths - j
+decreases-loop map configs symbols ready place levels distortion count paths remaining costs n context entry₀ j₀ entry j = paths - j
 
 context-requires : tie.Need-context-requires invariant-loop decreases-loop
 context-requires c κs =

@@ -1,6 +1,6 @@
 use Rattle.beam_paths.specs.Path.{Path, Way, ways_of}
 use Rattle.beam_paths.specs.Held.{no_path}
-use Rattle.beam_row.specs.Held.{spot_of, PositionFor}
+use Rattle.beam_row.specs.Held.{spot_of, Stands}
 use Rattle.beam_row.specs.Entries.{Leads, BothOf}
 use Rattle.least_cost.specs.Position.{Position}
 use Rattle.prices.specs.Book.{book_in}
@@ -19,14 +19,14 @@ use Rattle.beam_row.proofs.ways.try_levels.Statement.{statement}
 use Rattle.beam_row.proofs.ways.try_levels.Tie as tie
 
 abbrev invariant-loop : tie.invariant-loop
-invariant-loop map configs symbols ready place levels distortion candidate-count context nonzero tail j best₀ i₀ best i =
-    (i ≤ candidate-count)
+invariant-loop map configs symbols ready place levels distortion count context nonzero tail j best₀ i₀ best i =
+    (i ≤ count)
     × ((best.remaining ≡ best₀.remaining)
-    × ((q : Position) (xs : List Path) (ws : List Way) → PositionFor (book_in map configs symbols ready) (spot_of place candidate-count levels) q → Leads xs j nonzero tail best₀.remaining → BothOf q xs ws best₀
+    × ((q : Position) (xs : List Path) (ws : List Way) → Stands (book_in map configs symbols ready) (spot_of place count levels) q → Leads xs j nonzero tail best₀.remaining → BothOf q xs ws best₀
     → BothOf q xs (ws ++ ways_of (get_or xs j no_path) (take i q.candidates)) best))
 
 abbrev decreases-loop : tie.decreases-loop
-decreases-loop map configs symbols ready place levels distortion candidate-count context nonzero tail j best₀ i₀ best i = candidate-count - i
+decreases-loop map configs symbols ready place levels distortion count context nonzero tail j best₀ i₀ best i = count - i
 
 loop-holds : tie.Need-loop-init invariant-loop decreases-loop
 loop-holds c = (search rules, (refl, λ q xs ws S L b. both-start _ b))
@@ -60,7 +60,7 @@ try-way-requires c κs =
     let start = c.before.before.before.before.before.before.before.before.before.before in
     let P = start.requires.0 in
     let here = c.before.before.before.before.loop-test.true in
-    (P.priced, ((start.requires.1.0.1, usable-level P.usable _ here), distortion_is (spot_of start.args.place start.args.candidate-count start.args.levels.now) P.usable P.each here))
+    (P.priced, ((start.requires.1.0.1, usable-level P.usable _ here), distortion_is (spot_of start.args.place start.args.count start.args.levels.now) P.usable P.each here))
 
 add-i : tie.Need-overflow-add-i invariant-loop decreases-loop
 add-i c = search rules
@@ -72,7 +72,7 @@ loop-less c = search rules
 joined : (c : tie.Joined1 invariant-loop decreases-loop)
     → let at = c.before.before.before.before in
     let a = at.before.before.before.before.before.args in
-    OneMore (book_in a.map.now a.configs.now a.symbols.now a.ready.now) (spot_of a.place a.candidate-count a.levels.now) a.j a.nonzero at.loop.i a.tail at.loop.best c.if1.best
+    OneMore (book_in a.map.now a.configs.now a.symbols.now a.ready.now) (spot_of a.place a.count a.levels.now) a.j a.nonzero at.loop.i a.tail at.loop.best c.if1.best
 joined c =
     let at = c.before.before.before.before in
     let pre = at.before.before.before.before.before.requires in
@@ -93,7 +93,7 @@ returns : tie.Need-returns invariant-loop decreases-loop
 returns c =
     let start = c.before.before.before.before.before.before in
     let inv = c.before.loop.invariant in
-    let last : c.before.loop.i ≡ start.args.candidate-count = omega (arith, inv.0, c.loop-test.false) in
+    let last : c.before.loop.i ≡ start.args.count = omega (arith, inv.0, c.loop-test.false) in
     (inv.1.0, λ q xs ws S L b. candidates-all ws _ S start.requires.0.usable last (inv.1.1 q xs ws S L b))
 
 pub try-levels-spec : {M : Type 1} → statement M

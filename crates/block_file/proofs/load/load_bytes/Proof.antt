@@ -4,15 +4,15 @@ use Prim.Native.Nat.{ℕ, ◌+◌, ◌-◌, ◌<◌, ◌≤◌, zero-le}
 use native.Mathlib.Numerals.{add-one-le}
 use native.Mathlib.Omega.{arith}
 use lib.ListN.{length, drop, get_or, length-set}
-use Rattle.block_file.proofs.Fill.{fill_none, fill_more, all-filled}
-use Rattle.block_file.specs.Word.{tabled}
+use Rattle.block_file.proofs.Fill.{fill_none, fill_more, filled}
+use Rattle.block_file.specs.Word.{listed}
 use borrow.Author.Rules.{rules}
 use Rattle.block_file.proofs.load.load_bytes.Statement.{statement}
 use Rattle.block_file.proofs.load.load_bytes.Tie as tie
 
 abbrev invariant-loop : tie.invariant-loop
 invariant-loop bytes start out₀ i₀ i-end out i =
-    (i-end ≡ length out₀) × ((i ≤ i-end) × ((out ≡ tabled (λ (k : ℕ). get_or bytes (start + k) 0) i ++ drop i out₀) × (length out ≡ length out₀)))
+    (i-end ≡ length out₀) × ((i ≤ i-end) × ((out ≡ listed (λ (k : ℕ). get_or bytes (start + k) 0) i ++ drop i out₀) × (length out ≡ length out₀)))
 
 abbrev decreases-loop : tie.decreases-loop
 decreases-loop bytes start out₀ i₀ i-end out i = i-end - i
@@ -47,7 +47,7 @@ same_length c = search rules
 returns : tie.Need-returns invariant-loop decreases-loop
 returns c =
     let at = c.before.loop in
-    all-filled _ _ _ (subst (λ (k : ℕ). at.i ≤ k) at.invariant.0 at.invariant.1.0) (subst (λ (k : ℕ). k ≤ at.i) at.invariant.0 c.loop-test.false) at.invariant.1.1.0
+    filled _ _ _ (subst (λ (k : ℕ). at.i ≤ k) at.invariant.0 at.invariant.1.0) (subst (λ (k : ℕ). k ≤ at.i) at.invariant.0 c.loop-test.false) at.invariant.1.1.0
 
 pub load-bytes-spec : {M : Type 1} → statement M
 load-bytes-spec =

@@ -7,15 +7,15 @@ use native.Mathlib.Omega.{arith}
 use lib.ListN.{length, drop, length-set}
 use mir.Val.{to_z}
 use mir.Syntax.{w32}
-use Rattle.block_file.proofs.Fill.{fill_none, fill_more, all-filled}
-use Rattle.block_file.specs.Word.{word_at, tabled}
+use Rattle.block_file.proofs.Fill.{fill_none, fill_more, filled}
+use Rattle.block_file.specs.Word.{word_at, listed}
 use borrow.Author.Rules.{rules}
 use Rattle.block_file.proofs.load.load_levels.Statement.{statement}
 use Rattle.block_file.proofs.load.load_levels.Tie as tie
 
 abbrev invariant-loop : tie.invariant-loop
 invariant-loop bytes start out₀ i₀ i-end out i =
-    (i-end ≡ length out₀) × ((i ≤ i-end) × ((out ≡ tabled (λ (k : ℕ). to_z w32 (word_at bytes (start + 4 * k))) i ++ drop i out₀) × (length out ≡ length out₀)))
+    (i-end ≡ length out₀) × ((i ≤ i-end) × ((out ≡ listed (λ (k : ℕ). to_z w32 (word_at bytes (start + 4 * k))) i ++ drop i out₀) × (length out ≡ length out₀)))
 
 abbrev decreases-loop : tie.decreases-loop
 decreases-loop bytes start out₀ i₀ i-end out i = i-end - i
@@ -56,7 +56,7 @@ same_length c = search rules
 returns : tie.Need-returns invariant-loop decreases-loop
 returns c =
     let at = c.before.loop in
-    all-filled _ _ _ (subst (λ (k : ℕ). at.i ≤ k) at.invariant.0 at.invariant.1.0) (subst (λ (k : ℕ). k ≤ at.i) at.invariant.0 c.loop-test.false) at.invariant.1.1.0
+    filled _ _ _ (subst (λ (k : ℕ). at.i ≤ k) at.invariant.0 at.invariant.1.0) (subst (λ (k : ℕ). k ≤ at.i) at.invariant.0 c.loop-test.false) at.invariant.1.1.0
 
 pub load-levels-spec : {M : Type 1} → statement M
 load-levels-spec =

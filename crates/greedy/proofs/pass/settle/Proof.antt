@@ -1,4 +1,4 @@
-use Rattle.greedy.proofs.Settling.{scan-of, SettledSoFar, so-far-none, next-ready, next-below, next-later, so_far_more, so-far-all}
+use Rattle.greedy.proofs.Settling.{scan-of, SoFar, so-far-none, next-ready, next-below, next-later, so_far_more, so-far-all}
 use Rattle.prices.specs.Book.{book_in}
 use mathlib.Core.Path.{sym, ◌∙◌}
 use native.Mathlib.Omega.{arith}
@@ -8,7 +8,7 @@ use Rattle.greedy.proofs.pass.settle.Tie as tie
 
 abbrev invariant-loop : tie.invariant-loop
 invariant-loop map configs symbols ready plan scan source inv-qm levels₀ counts₀ i₀ levels counts i =
-    SettledSoFar plan (book_in map configs symbols ready) scan source inv-qm levels₀ levels counts i
+    SoFar plan (book_in map configs symbols ready) scan source inv-qm levels₀ levels counts i
 
 abbrev decreases-loop : tie.decreases-loop
 decreases-loop map configs symbols ready plan scan source inv-qm levels₀ counts₀ i₀ levels counts i = i

@@ -22,15 +22,15 @@ use Rattle.greedy_cost.proofs.cost.cheapest.Statement.{statement}
 use Rattle.greedy_cost.proofs.cost.cheapest.Tie as tie
 
 abbrev invariant-loop : tie.invariant-loop
-invariant-loop map configs symbols ready plan place levels candidate-count i around current best₀ j₀ best j =
-    (j ≤ candidate-count)
+invariant-loop map configs symbols ready plan place levels count i around current best₀ j₀ best j =
+    (j ≤ count)
     × (T (is_level best.level)
     × ((b : Block) → Planned b plan → place ≡ place_of b plan.log2 i
-    → holder (cost_of (book_in map configs symbols ready) b i around.later around.others around.front around.run) best.cost best.level (drop j (listed (in_array candidate-count levels)))
-    ≡ holder (cost_of (book_in map configs symbols ready) b i around.later around.others around.front around.run) (inf false) (to_z w32 current) (listed (in_array candidate-count levels))))
+    → holder (cost_of (book_in map configs symbols ready) b i around.later around.others around.front around.run) best.cost best.level (drop j (listed (in_array count levels)))
+    ≡ holder (cost_of (book_in map configs symbols ready) b i around.later around.others around.front around.run) (inf false) (to_z w32 current) (listed (in_array count levels))))
 
 abbrev decreases-loop : tie.decreases-loop
-decreases-loop map configs symbols ready plan place levels candidate-count i around current best₀ j₀ best j = candidate-count - j
+decreases-loop map configs symbols ready plan place levels count i around current best₀ j₀ best j = count - j
 
 infinity-requires : tie.Need-infinity-requires invariant-loop decreases-loop
 infinity-requires c κs = search rules
@@ -84,7 +84,7 @@ returns c =
     let at-loop = c.before.before in
     let start = at-loop.before.before.before.before.before.before in
     let usable = start.requires.1.1.1.0 in
-    let last : at-loop.loop.j ≡ start.args.candidate-count = omega arith in
+    let last : at-loop.loop.j ≡ start.args.count = omega arith in
     let level = at-loop.loop.invariant.1.0 in (
       λ b w at.
           holder-done _ _ _ _ _ _ _ _ (last ∙ sym (listed-length usable)) (level-back _ level) (level-back start.args.current start.requires.1.1.1.1) (at-loop.loop.invariant.1.1 b w at),

@@ -13,7 +13,7 @@ use Rattle.candidates.specs.Nearest.{is_ideal}
 use Rattle.candidates.specs.Candidates.{candidates_of, filled, filler, is_current}
 use Rattle.candidates.proofs.Laws.{candidates-listed, filled-count}
 use Rattle.answers.proofs.Tested.{tested}
-use Rattle.level_calls.specs.Levels.{listed_reply, candidates_reply}
+use Rattle.level_calls.specs.Levels.{listed, candidates_reply}
 use Rattle.level_calls.proofs.levels.rdoq_candidates.Statement.{statement}
 use Rattle.level_calls.proofs.levels.rdoq_candidates.Tie as tie
 
@@ -53,7 +53,7 @@ returns c =
       sym c.before.before.before.before.before.is-ideal.ensures ∙ c.before.before.before.before.if1.true,
       tested is_current q _ true e c.before.before.before.is-current.ensures c.before.before.if2.true,
     )
-    (ap (listed_reply true) (c.before.rdoq-candidates.ensures ∙ ap (λ (z : ℤ). filled (filler z s.args.restore) (candidates_of s.args.ideal z s.args.restore)) e))
+    (ap (listed true) (c.before.rdoq-candidates.ensures ∙ ap (λ (z : ℤ). filled (filler z s.args.restore) (candidates_of s.args.ideal z s.args.restore)) e))
 
 returns-2 : tie.Need-returns-2
 unfolding candidates_reply

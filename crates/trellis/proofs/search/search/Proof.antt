@@ -33,7 +33,7 @@ best-count-requires c κs =
     let starts = c.before.before.before.before.before.before.before.before.before.before.before.before.before.before.before.before.before.before.start_of_lem.ensures _ s.lists.scan_is s.lists.levels_is s.checked.passed.scan_long s.checked.planned in
     let row = c.before.before.before.before.before.before.before.before.before.before.before.before.before.before.before.before.start-row.ensures in
     let taken = c.before.before.before.before.before.before.before.before.before.before.take-positions.ensures in
-    first-row s pre.0.0 (taken.0 (tail-for s starts (row.1 _ _ _ starts))) c.live-row.ensures (still-long (taken.1.row_a ∙ row.0) pre.1.0) (still-long taken.1.row_b pre.1.1.0)
+    first-row s pre.0.0 (taken.0 (tail-for s starts (row.1 _ _ _ starts))) c.live-row.ensures (still-long (taken.1.first ∙ row.0) pre.1.0) (still-long taken.1.second pre.1.1.0)
 
 same_length : tie.Need-same-length
 same_length c = search rules
@@ -50,11 +50,11 @@ returns c =
     let taken = c.before.before.before.before.before.before.before.before.before.before.before.take-positions.ensures in
     let row = c.before.before.before.before.before.before.before.before.before.before.before.before.before.before.before.before.before.start-row.ensures in
     let kept = taken.1 in (
-      record { row_a = kept.row_a ∙ row.0; row_b = kept.row_b; choices = kept.choices },
+      record { first = kept.first ∙ row.0; second = kept.second; choices = kept.choices },
       λ s.
           let starts = c.before.before.before.before.before.before.before.before.before.before.before.before.before.before.before.before.before.before.before.start_of_lem.ensures _ s.lists.scan_is s.lists.levels_is s.checked.passed.scan_long s.checked.planned in
           let rowed = taken.0 (tail-for s starts (row.1 _ _ _ starts)) in
-          let best = c.best-count.ensures (first-row s pre.0.0 rowed c.before.live-row.ensures (still-long (kept.row_a ∙ row.0) pre.1.0) (still-long kept.row_b pre.1.1.0)) in
+          let best = c.best-count.ensures (first-row s pre.0.0 rowed c.before.live-row.ensures (still-long (kept.first ∙ row.0) pre.1.0) (still-long kept.second pre.1.1.0)) in
           record {
             cost_is = best.0;
             count_is = best.1;

@@ -32,7 +32,7 @@ cast-result c = search rules
 returns : tie.Need-returns
 returns c =
     let a = c.before.before.args in
-    let place : 2 * (choice_bytes a.width * a.i + (a.left - a.lowest)) + a.prev ≡ 2 * (choice_bytes a.width * a.i) + (2 * (a.left - a.lowest) + a.prev) = omega arith in
+    let place : 2 * (choice_bytes a.width * a.i + (a.left - a.least)) + a.prev ≡ 2 * (choice_bytes a.width * a.i) + (2 * (a.left - a.least) + a.prev) = omega arith in
     λ few. wide-few _ _ (rw place at c.half.ensures.0) few
 
 pub choice-at-spec : {M : Type 1} → statement M

@@ -45,8 +45,8 @@ sub-after c =
     let h = within c.before.before.before.before.before.loop-test.true inv.1.1.0 in
     input-some w (inv.0 w) h c.before.before.offer.ensures.0 c.nonzero.ensures
 
-lowest-count-requires : tie.Need-lowest-count-requires invariant-loop decreases-loop
-lowest-count-requires c κs = search rules
+least-count-requires : tie.Need-least-count-requires invariant-loop decreases-loop
+least-count-requires c κs = search rules
 
 choice-at-requires : tie.Need-choice-at-requires invariant-loop decreases-loop
 choice-at-requires c κs =
@@ -54,7 +54,7 @@ choice-at-requires c κs =
     let inv = c.before.before.before.before.before.before.before.loop.invariant in
     let h = within c.before.before.before.before.before.before.loop-test.true inv.1.1.0 in
     let few = window-few w.searched.checked in
-    let row = state-here w (inv.0 w) h c.before.before.before.offer.ensures.0 c.before.nonzero.ensures c.lowest-count.ensures in
+    let row = state-here w (inv.0 w) h c.before.before.before.offer.ensures.0 c.before.nonzero.ensures c.least-count.ensures in
     ((omega arith, (left-few w (inv.0 w) h, here-room _ _ _ _ h w.room)), (row.0, (row.1, ((inv.0 w).bit, w.narrow))))
 
 mul-level : tie.Need-overflow-mul-level invariant-loop decreases-loop
@@ -62,7 +62,7 @@ mul-level c =
     let w = c.before.before.before.before.before.before.before.before.before.before.before.before.before.before.before.requires in
     let inv = c.before.before.before.before.before.before.before.before.loop.invariant in
     let h = within c.before.before.before.before.before.before.before.loop-test.true inv.1.1.0 in
-    let below = index_below w (inv.0 w) h c.before.before.before.before.offer.ensures.0 c.before.before.before.before.offer.ensures.1.0 c.before.before.nonzero.ensures c.before.lowest-count.ensures c.choice-at.ensures in
+    let below = index_below w (inv.0 w) h c.before.before.before.before.offer.ensures.0 c.before.before.before.before.offer.ensures.1.0 c.before.before.nonzero.ensures c.before.least-count.ensures c.choice-at.ensures in
     let five = c.before.before.before.before.offer.ensures.1.0.few in
     record { fits = omega arith }
 
@@ -71,7 +71,7 @@ array-copy-out-level c =
     let w = c.before.before.before.before.before.before.before.before.before.before.before.before.before.before.before.requires in
     let inv = c.before.before.before.before.before.before.before.before.loop.invariant in
     let h = within c.before.before.before.before.before.before.before.loop-test.true inv.1.1.0 in
-    let below = index_below w (inv.0 w) h c.before.before.before.before.offer.ensures.0 c.before.before.before.before.offer.ensures.1.0 c.before.before.nonzero.ensures c.before.lowest-count.ensures c.choice-at.ensures in
+    let below = index_below w (inv.0 w) h c.before.before.before.before.offer.ensures.0 c.before.before.before.before.offer.ensures.1.0 c.before.before.nonzero.ensures c.before.least-count.ensures c.choice-at.ensures in
     let five = c.before.before.before.before.offer.ensures.1.0.few in
     omega arith
 
@@ -98,7 +98,7 @@ sub-left c =
     let w = c.before.before.before.before.before.before.before.before.before.before.before.before.before.before.before.before.before.before.before.before.requires in
     let inv = c.before.before.before.before.before.before.before.before.before.before.before.before.before.loop.invariant in
     let h = within c.before.before.before.before.before.before.before.before.before.before.before.before.loop-test.true inv.1.1.0 in
-    level-left w (inv.0 w) h c.before.before.before.before.before.before.before.before.before.offer.ensures.0 c.before.before.before.before.before.before.before.before.before.offer.ensures.1.0 c.before.before.before.before.before.before.before.nonzero.ensures c.before.before.before.before.before.before.lowest-count.ensures c.before.before.before.before.before.choice-at.ensures c.nonzero2.ensures
+    level-left w (inv.0 w) h c.before.before.before.before.before.before.before.before.before.offer.ensures.0 c.before.before.before.before.before.before.before.before.before.offer.ensures.1.0 c.before.before.before.before.before.before.before.nonzero.ensures c.before.before.before.before.before.before.least-count.ensures c.before.before.before.before.before.choice-at.ensures c.nonzero2.ensures
 
 add-i : tie.Need-overflow-add-i invariant-loop decreases-loop
 add-i c =
@@ -115,7 +115,7 @@ loop-again c =
     let inv = c.before.before.before.before.before.before.before.before.before.before.before.before.before.loop.invariant in
     let taken = c.before.before.before.before.before.before.before.before.before.before.before.before.loop-test.true in
     let offer = c.before.before.before.before.before.before.before.before.before.offer.ensures in (
-      λ w. walked_on w (inv.0 w) (within taken inv.1.1.0) offer.0 offer.1.0 c.before.before.before.before.before.before.before.nonzero.ensures c.before.before.before.before.before.before.lowest-count.ensures c.before.before.before.before.before.choice-at.ensures c.nonzero2.ensures (ap (λ (n : ℕ). n + c.before.before.before.before.before.before.before.before.before.before.before.before.before.loop.i) inv.1.0) c.before.before.write-level.ensures,
+      λ w. walked_on w (inv.0 w) (within taken inv.1.1.0) offer.0 offer.1.0 c.before.before.before.before.before.before.before.nonzero.ensures c.before.before.before.before.before.before.least-count.ensures c.before.before.before.before.before.choice-at.ensures c.nonzero2.ensures (ap (λ (n : ℕ). n + c.before.before.before.before.before.before.before.before.before.before.before.before.before.loop.i) inv.1.0) c.before.before.write-level.ensures,
       (inv.1.0, (inv.1.1.0, omega arith)),
     )
 
@@ -138,7 +138,7 @@ write-levels-spec =
     offer-requires
     nonzero-requires
     sub-after
-    lowest-count-requires
+    least-count-requires
     choice-at-requires
     mul-level
     array-copy-out-level

@@ -14,13 +14,13 @@ use Rattle.trellis_choice.proofs.chosen.first_tied.Statement.{statement}
 use Rattle.trellis_choice.proofs.chosen.first_tied.Tie as tie
 
 abbrev invariant-loop : tie.invariant-loop
-invariant-loop levels candidate-count local tail cost other j₀ j =
-    let candidates = in_array candidate-count levels in
-    (j ≤ candidate-count)
+invariant-loop levels count local tail cost other j₀ j =
+    let candidates = in_array count levels in
+    (j ≤ count)
     × ((g : ℤ → Float) → Each g (listed candidates) local → Untied g tail cost (get_or (listed candidates) other (pos 0)) (listed candidates) j)
 
 abbrev decreases-loop : tie.decreases-loop
-decreases-loop levels candidate-count local tail cost other j₀ j = candidate-count - j
+decreases-loop levels count local tail cost other j₀ j = count - j
 
 loop-holds : tie.Need-loop-init invariant-loop decreases-loop
 loop-holds c = (search rules, λ g w. untied-none _ _ _ _ _)
@@ -77,7 +77,7 @@ returns-2 : tie.Need-returns-2 invariant-loop decreases-loop
 returns-2 c =
     λ g each.
     let start = c.before.before in
-    let last : c.before.loop.j ≡ start.args.candidate-count = omega arith in
+    let last : c.before.loop.j ≡ start.args.count = omega arith in
     untied-all (rw (last ∙ sym (listed-length start.requires)) at (c.before.loop.invariant.1 g each))
 
 pub first-tied-spec : {M : Type 1} → statement M

@@ -12,10 +12,10 @@ use Rattle.trellis_choice.proofs.chosen.zero_index.Statement.{statement}
 use Rattle.trellis_choice.proofs.chosen.zero_index.Tie as tie
 
 abbrev invariant-loop : tie.invariant-loop
-invariant-loop levels candidate-count j₀ j = (j ≤ candidate-count) × NoZero (listed (in_array candidate-count levels)) j
+invariant-loop levels count j₀ j = (j ≤ count) × NoZero (listed (in_array count levels)) j
 
 abbrev decreases-loop : tie.decreases-loop
-decreases-loop levels candidate-count j₀ j = candidate-count - j
+decreases-loop levels count j₀ j = count - j
 
 loop-holds : tie.Need-loop-init invariant-loop decreases-loop
 loop-holds c = (search rules, zero_none _)
@@ -55,7 +55,7 @@ loop-again c =
 returns-2 : tie.Need-returns-2 invariant-loop decreases-loop
 returns-2 c =
     let start = c.before.before in
-    let last : c.before.loop.j ≡ start.args.candidate-count = omega arith in
+    let last : c.before.loop.j ≡ start.args.count = omega arith in
     let none = zero-all (rw (last ∙ sym (listed-length start.requires)) at c.before.loop.invariant.1) in
     (record { below = λ has. absurd (true≢false (sym has ∙ none)); zero = λ has. absurd (true≢false (sym has ∙ none)) }, λ _. refl)
 

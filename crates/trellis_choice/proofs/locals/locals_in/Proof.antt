@@ -14,12 +14,12 @@ use Rattle.trellis_choice.proofs.locals.locals_in.Statement.{statement}
 use Rattle.trellis_choice.proofs.locals.locals_in.Tie as tie
 
 abbrev invariant-loop : tie.invariant-loop
-invariant-loop map configs symbols ready place levels candidate-count distortion context first₀ second₀ locals₀ j₀ first second locals j =
-    (j ≤ candidate-count)
-    × Partly (local_in (book_in map configs symbols ready) place context 0) (local_in (book_in map configs symbols ready) place context 1) (listed (in_array candidate-count levels)) j first second locals
+invariant-loop map configs symbols ready place levels count distortion context first₀ second₀ locals₀ j₀ first second locals j =
+    (j ≤ count)
+    × Partly (local_in (book_in map configs symbols ready) place context 0) (local_in (book_in map configs symbols ready) place context 1) (listed (in_array count levels)) j first second locals
 
 abbrev decreases-loop : tie.decreases-loop
-decreases-loop map configs symbols ready place levels candidate-count distortion context first₀ second₀ locals₀ j₀ first second locals j = candidate-count - j
+decreases-loop map configs symbols ready place levels count distortion context first₀ second₀ locals₀ j₀ first second locals j = count - j
 
 none-requires : tie.Need-none-requires invariant-loop decreases-loop
 none-requires c κs = search rules
@@ -93,7 +93,7 @@ loop-again c =
 returns : tie.Need-returns invariant-loop decreases-loop
 returns c =
     let start = c.before.before.before.before.before.before.before in
-    let last : c.before.loop.j ≡ start.args.candidate-count = omega arith in
+    let last : c.before.loop.j ≡ start.args.count = omega arith in
     let inv = c.before.loop.invariant.1 in
     (partly-all (rw (last ∙ sym (listed-length start.requires.1.1.0)) at inv), (inv.first.long, inv.second.long))
 

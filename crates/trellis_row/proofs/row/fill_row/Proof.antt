@@ -1,4 +1,4 @@
-use Rattle.trellis_row.proofs.Rows.{RowSoFar, so-far-none, so_far_more, so-far-room, so-far-pair, workable-less, coding-of, located-at, elsewhere-pair, written-dead, nonzero-tail-cost, zero-tail-cost, zero-tail-is, not-below}
+use Rattle.trellis_row.proofs.Rows.{SoFar, so-far-none, so_far_more, so-far-room, so-far-pair, workable-less, coding-of, located-at, elsewhere-pair, written-dead, nonzero-tail-cost, zero-tail-cost, zero-tail-is, not-below}
 use Rattle.ac_context.proofs.Bounds.{covered-most}
 use Rattle.candidates.specs.Candidates.{in_array}
 use Rattle.steps.proofs.Listed.{listed-few}
@@ -16,12 +16,12 @@ use Rattle.trellis_row.proofs.row.fill_row.Statement.{statement}
 use Rattle.trellis_row.proofs.row.fill_row.Tie as tie
 
 abbrev invariant-loop : tie.invariant-loop
-invariant-loop map configs symbols ready place levels candidate-count next span current₀ choices₀ at lowest highest distortion first₀ second₀ zero r₀ current choices first second r =
-    RowSoFar (book_in map configs symbols ready) place (listed (in_array candidate-count levels)) next span (2 * at) lowest highest r current₀ current (unpacked choices₀) (unpacked choices)
+invariant-loop map configs symbols ready place levels count next span current₀ choices₀ at least most distortion first₀ second₀ zero r₀ current choices first second r =
+    SoFar (book_in map configs symbols ready) place (listed (in_array count levels)) next span (2 * at) least most r current₀ current (unpacked choices₀) (unpacked choices)
     × ((length first ≡ 5) × (length second ≡ 5))
 
 abbrev decreases-loop : tie.decreases-loop
-decreases-loop map configs symbols ready place levels candidate-count next span current₀ choices₀ at lowest highest distortion first₀ second₀ zero r₀ current choices first second r = highest + 1 - r
+decreases-loop map configs symbols ready place levels count next span current₀ choices₀ at least most distortion first₀ second₀ zero r₀ current choices first second r = most + 1 - r
 
 distortions-requires : tie.Need-distortions-requires invariant-loop decreases-loop
 distortions-requires c κs = (c.before.before.before.before.before.before.before.before.requires.0.usable, refl)
@@ -152,7 +152,7 @@ same-length-2 c = unpacked-size _ _ c.before.loop.invariant.0.elsewhere.size
 returns : tie.Need-returns invariant-loop decreases-loop
 returns c =
     let inv = c.before.loop.invariant.0 in
-    let last : c.before.loop.r ≡ c.before.before.before.before.before.before.before.before.before.before.before.before.args.highest + 1 = omega (arith, inv.upto, c.loop-test.false) in
+    let last : c.before.loop.r ≡ c.before.before.before.before.before.before.before.before.before.before.before.before.args.most + 1 = omega (arith, inv.upto, c.loop-test.false) in
     (inv.size, (rw last at inv.elsewhere, rw last at inv.done))
 
 pub fill-row-spec : {M : Type 1} → statement M

@@ -11,12 +11,12 @@ use Rattle.trellis_row.proofs.row.fill_run.Statement.{statement}
 use Rattle.trellis_row.proofs.row.fill_run.Tie as tie
 
 abbrev invariant-loop : tie.invariant-loop
-invariant-loop levels candidate-count first second locals zero next span current₀ choices₀ at lowest from upto r₀ current choices r =
-    let candidates = in_array candidate-count levels in
-    Ran (λ book x n. Ready book x candidates next span first second locals zero n) (listed candidates) next span (2 * at) lowest from upto r current₀ current (unpacked choices₀) (unpacked choices)
+invariant-loop levels count first second locals zero next span current₀ choices₀ at least from upto r₀ current choices r =
+    let candidates = in_array count levels in
+    Ran (λ book x n. Ready book x candidates next span first second locals zero n) (listed candidates) next span (2 * at) least from upto r current₀ current (unpacked choices₀) (unpacked choices)
 
 abbrev decreases-loop : tie.decreases-loop
-decreases-loop levels candidate-count first second locals zero next span current₀ choices₀ at lowest from upto r₀ current choices r = upto + 1 - r
+decreases-loop levels count first second locals zero next span current₀ choices₀ at least from upto r₀ current choices r = upto + 1 - r
 
 loop-holds : tie.Need-loop-init invariant-loop decreases-loop
 loop-holds c = ran-none _ _ _ _ _ _ _ _ _ _ c.before.before.before.requires.1.1.0.1.0

@@ -1,4 +1,4 @@
-use Rattle.trellis_table.proofs.Totals.{CountsLeft, counts_start, counts-more, counts_end, count-few, counts_some}
+use Rattle.trellis_table.proofs.Totals.{Sofar, sofar-start, sofar-more, sofar-end, count-few, counts_some}
 use Rattle.search_checks.proofs.Checked.{window-some}
 use Rattle.trellis_table.specs.Rows.{FirstRow, problem_in}
 use Rattle.prices.specs.Book.{book_in}
@@ -11,19 +11,19 @@ use Rattle.trellis_table.proofs.count.best_count.Statement.{statement}
 use Rattle.trellis_table.proofs.count.best_count.Tie as tie
 
 abbrev invariant-loop : tie.invariant-loop
-invariant-loop map configs symbols ready plan live counts highest best₀ n₀ best n =
-    ((counts.lowest ≤ n) × (n ≤ counts.highest + 1)) × ((t : FirstRow (book_in map configs symbols ready) plan live counts) → CountsLeft (problem_in t) n (counts.highest + 1 - n) best)
+invariant-loop map configs symbols ready plan live counts most best₀ n₀ best n =
+    ((counts.least ≤ n) × (n ≤ counts.most + 1)) × ((t : FirstRow (book_in map configs symbols ready) plan live counts) → Sofar (problem_in t) n (counts.most + 1 - n) best)
 
 abbrev decreases-loop : tie.decreases-loop
-decreases-loop map configs symbols ready plan live counts highest best₀ n₀ best n = counts.highest + 1 - n
+decreases-loop map configs symbols ready plan live counts most best₀ n₀ best n = counts.most + 1 - n
 
-none-requires : tie.Need-none-requires invariant-loop decreases-loop
-none-requires c κs = search rules
+infinity-requires : tie.Need-infinity-requires invariant-loop decreases-loop
+infinity-requires c κs = search rules
 
 loop-holds : tie.Need-loop-init invariant-loop decreases-loop
 loop-holds c =
     let pre = c.before.before.before.before.before.before.requires in
-    ((le_refl _, counts_some pre.rowable _ pre.counts_are), λ t. counts_start _ _ _ _ _ t.counts_are (window-some t.rowable.checked) c.none.ensures)
+    ((le_refl _, counts_some pre.rowable _ pre.counts_are), λ t. sofar-start _ _ _ _ _ t.counts_are (window-some t.rowable.checked) _ c.infinity.ensures)
 
 total-of-requires : tie.Need-total-of-requires invariant-loop decreases-loop
 total-of-requires c κs =
@@ -44,14 +44,14 @@ loop-again : tie.Need-loop-preserved invariant-loop decreases-loop
 loop-again c =
     let inv = c.before.before.before.loop.invariant in
     let here = c.before.before.loop-test.true in
-    let less : c.before.before.before.before.before.before.before.before.before.before.args.counts.highest + 1 - c.before.before.before.loop.n - 1 ≡ c.before.before.before.before.before.before.before.before.before.before.args.counts.highest + 1 - (c.before.before.before.loop.n + 1) = omega arith in
-    ((omega (arith, inv.0.0), omega arith), λ t. rw less at (counts-more (omega arith) (c.before.total_of.ensures t) c.consider.ensures (inv.1 t)))
+    let less : c.before.before.before.before.before.before.before.before.before.before.args.counts.most + 1 - c.before.before.before.loop.n - 1 ≡ c.before.before.before.before.before.before.before.before.before.before.args.counts.most + 1 - (c.before.before.before.loop.n + 1) = omega arith in
+    ((omega (arith, inv.0.0), omega arith), λ t. rw less at (sofar-more (omega arith) (c.before.total_of.ensures t) c.consider.ensures (inv.1 t)))
 
 returns : tie.Need-returns invariant-loop decreases-loop
 returns c =
     let inv = c.before.loop.invariant in
-    let none : c.before.before.before.before.before.before.before.before.args.counts.highest + 1 - c.before.loop.n ≡ 0 = omega (arith, c.loop-test.false) in
-    λ t. counts_end none (inv.1 t)
+    let none : c.before.before.before.before.before.before.before.before.args.counts.most + 1 - c.before.loop.n ≡ 0 = omega (arith, c.loop-test.false) in
+    λ t. sofar-end none (inv.1 t)
 
 pub best-count-spec : {M : Type 1} → statement M
 best-count-spec =
@@ -59,7 +59,7 @@ best-count-spec =
     (tie.spec
     invariant-loop
     decreases-loop
-    none-requires
+    infinity-requires
     loop-holds
     total-of-requires
     consider-requires

@@ -1,9 +1,9 @@
 use Rattle.half_bytes.proofs.Laws.{unpacked-size}
-use Rattle.trellis_table.proofs.Turns.{from-a, from-b, after-back, to-a, to-b}
+use Rattle.trellis_table.proofs.Turns.{from_first, from_second, after-back, to-first, to-second}
 use native.Mathlib.Nat.{le_refl}
 use Rattle.trellis_table.proofs.Turns.{rowed-start, from_tail}
 use Rattle.trellis_table.proofs.Steps.{last-room}
-use Rattle.trellis_table.specs.Rows.{TailFor, Rowed, RoomKept}
+use Rattle.trellis_table.specs.Rows.{TailFor, Rowed, Kept}
 use Rattle.prices.specs.Book.{book_in}
 use lib.ListN.{length}
 use native.Mathlib.Omega.{arith}
@@ -14,15 +14,15 @@ use Rattle.trellis_table.proofs.exchange.take_positions.Statement.{statement}
 use Rattle.trellis_table.proofs.exchange.take_positions.Tie as tie
 
 abbrev invariant-loop : tie.invariant-loop
-invariant-loop factored map configs symbols ready scan source inv-qm levels plan past rowA₀ rowB₀ choices₀ width step₀ in-a₀ i₀ row_a row_b choices step in-a i =
-    (i ≤ plan.window.length) × (((t : TailFor (book_in map configs symbols ready) scan source inv-qm levels plan past rowA₀) → Rowed width plan.window (book_in map configs symbols ready) t.searched.block i row_a row_b choices step in-a) × RoomKept rowA₀ row_a rowB₀ row_b choices₀ choices)
+invariant-loop factored map configs symbols ready scan source inv-qm levels plan past first₀ second₀ choices₀ width step₀ in-first₀ i₀ first second choices step in-first i =
+    (i ≤ plan.window.length) × (((t : TailFor (book_in map configs symbols ready) scan source inv-qm levels plan past first₀) → Rowed width plan.window (book_in map configs symbols ready) t.searched.block i first second choices step in-first) × Kept first₀ first second₀ second choices₀ choices)
 
 abbrev decreases-loop : tie.decreases-loop
-decreases-loop factored map configs symbols ready scan source inv-qm levels plan past rowA₀ rowB₀ choices₀ width step₀ in-a₀ i₀ row_a row_b choices step in-a i = i
+decreases-loop factored map configs symbols ready scan source inv-qm levels plan past first₀ second₀ choices₀ width step₀ in-first₀ i₀ first second choices step in-first i = i
 
 loop-holds : tie.Need-loop-init invariant-loop decreases-loop
 loop-holds c =
-    (le_refl _, ((λ t. rowed-start _ _ _ _ _ _ _ _ t.past_is t.row_is), record { row_a = refl; row_b = refl; choices = refl }))
+    (le_refl _, ((λ t. rowed-start _ _ _ _ _ _ _ _ t.past_is t.row_is), record { first = refl; second = refl; choices = refl }))
 
 sub-i : tie.Need-overflow-sub-i invariant-loop decreases-loop
 sub-i c = search rules
@@ -37,8 +37,8 @@ take-position-requires c κs =
     let rooms = pre.1.1 in (
       (pre.0, omega (arith, inv.0)),
       (
-        from_tail t (after-back some (inv.1.0 t)) (from-a some (inv.1.0 t) c.before.before.before.if1.true),
-        (rw inv.1.1.row_a rooms.0, (rw inv.1.1.row_b rooms.1.0, rw inv.1.1.choices (last-room _ _ _ _ some inv.0 rooms.1.1))),
+        from_tail t (after-back some (inv.1.0 t)) (from_first some (inv.1.0 t) c.before.before.before.if1.true),
+        (rw inv.1.1.first rooms.0, (rw inv.1.1.second rooms.1.0, rw inv.1.1.choices (last-room _ _ _ _ some inv.0 rooms.1.1))),
       ),
     )
 
@@ -52,11 +52,11 @@ loop-again c =
     let here = c.before.before.before.before.before.before.before.before.before.before.before in
     let own = here.before.before.before.before.before.before.before.before.before.before.before.before.requires.1.0 in
     let taken = c.before.before.before.before.take-position.ensures in
-    let step = taken (from_tail own (after-back some (inv.1.0 own)) (from-a some (inv.1.0 own) c.before.before.before.before.before.before.before.before.if1.true)) in (
+    let step = taken (from_tail own (after-back some (inv.1.0 own)) (from_first some (inv.1.0 own) c.before.before.before.before.before.before.before.before.if1.true)) in (
       omega (arith, inv.0),
       (
-        (λ t. to-b some (inv.1.0 t) (taken (from_tail t (after-back some (inv.1.0 t)) (from-a some (inv.1.0 t) c.before.before.before.before.before.before.before.before.if1.true)))),
-        record { row_a = inv.1.1.row_a; row_b = step.size ∙ inv.1.1.row_b; choices = unpacked-size _ _ step.elsewhere.size ∙ inv.1.1.choices },
+        (λ t. to-second some (inv.1.0 t) (taken (from_tail t (after-back some (inv.1.0 t)) (from_first some (inv.1.0 t) c.before.before.before.before.before.before.before.before.if1.true)))),
+        record { first = inv.1.1.first; second = step.size ∙ inv.1.1.second; choices = unpacked-size _ _ step.elsewhere.size ∙ inv.1.1.choices },
       ),
     )
 
@@ -70,8 +70,8 @@ take-position-requires-2 c κs =
     let rooms = pre.1.1 in (
       (pre.0, omega (arith, inv.0)),
       (
-        from_tail t (after-back some (inv.1.0 t)) (from-b some (inv.1.0 t) c.before.before.before.if1.false),
-        (rw inv.1.1.row_b rooms.1.0, (rw inv.1.1.row_a rooms.0, rw inv.1.1.choices (last-room _ _ _ _ some inv.0 rooms.1.1))),
+        from_tail t (after-back some (inv.1.0 t)) (from_second some (inv.1.0 t) c.before.before.before.if1.false),
+        (rw inv.1.1.second rooms.1.0, (rw inv.1.1.first rooms.0, rw inv.1.1.choices (last-room _ _ _ _ some inv.0 rooms.1.1))),
       ),
     )
 
@@ -85,19 +85,19 @@ loop-again-2 c =
     let here = c.before.before.before.before.before.before.before.before.before.before.before in
     let own = here.before.before.before.before.before.before.before.before.before.before.before.before.requires.1.0 in
     let taken = c.before.before.before.before.take-position2.ensures in
-    let step = taken (from_tail own (after-back some (inv.1.0 own)) (from-b some (inv.1.0 own) c.before.before.before.before.before.before.before.before.if1.false)) in (
+    let step = taken (from_tail own (after-back some (inv.1.0 own)) (from_second some (inv.1.0 own) c.before.before.before.before.before.before.before.before.if1.false)) in (
       omega (arith, inv.0),
       (
-        (λ t. to-a some (inv.1.0 t) (taken (from_tail t (after-back some (inv.1.0 t)) (from-b some (inv.1.0 t) c.before.before.before.before.before.before.before.before.if1.false)))),
-        record { row_a = step.size ∙ inv.1.1.row_a; row_b = inv.1.1.row_b; choices = unpacked-size _ _ step.elsewhere.size ∙ inv.1.1.choices },
+        (λ t. to-first some (inv.1.0 t) (taken (from_tail t (after-back some (inv.1.0 t)) (from_second some (inv.1.0 t) c.before.before.before.before.before.before.before.before.if1.false)))),
+        record { first = step.size ∙ inv.1.1.first; second = inv.1.1.second; choices = unpacked-size _ _ step.elsewhere.size ∙ inv.1.1.choices },
       ),
     )
 
 same_length : tie.Need-same-length invariant-loop decreases-loop
-same_length c = c.before.loop.invariant.1.1.row_a
+same_length c = c.before.loop.invariant.1.1.first
 
 same-length-2 : tie.Need-same-length-2 invariant-loop decreases-loop
-same-length-2 c = c.before.loop.invariant.1.1.row_b
+same-length-2 c = c.before.loop.invariant.1.1.second
 
 same-length-3 : tie.Need-same-length-3 invariant-loop decreases-loop
 same-length-3 c = c.before.loop.invariant.1.1.choices

@@ -33,8 +33,8 @@ sub-left-2 c = let pre = c.before.before.before.before.before.before.before.befo
 rise-requires : tie.Need-rise-requires
 rise-requires c κs = search rules
 
-lowest-count-requires : tie.Need-lowest-count-requires
-lowest-count-requires c κs = search rules
+least-count-requires : tie.Need-least-count-requires
+least-count-requires c κs = search rules
 
 last-count-requires : tie.Need-last-count-requires
 last-count-requires c κs =
@@ -67,7 +67,7 @@ fill-row-requires c κs =
     let offered = offer.0 _ t.searched.lists K.checked.planned in
     let level = handed-back _ _ offered.level_is (level-current K.checked _ h) in
     let place = c.before.before.before.before.before.before.before.before.before.before.place.ensures _ K.checked.planned offered.ideal_is level in
-    let lowest = lowest-is _ c.before.before.before.before.lowest-count.ensures past after in
+    let lowest = lowest-is _ c.before.before.before.before.least-count.ensures past after in
     let risen = c.before.before.before.before.before.rise.ensures ∙ ap (rise_at start.args.plan.window.restoring start.args.i) (level ∙ sym offered.level_is) in
     let last = last-is start.args.width start.args.i (start.args.plan.window.length - 1 - start.args.i) c.before.before.before.before.before.before.before.before.Span-of.result.upto c.before.before.before.last-count.ensures past after risen in
     let from = from_is _ _ span.1.0 after in
@@ -111,7 +111,7 @@ returns c =
     let offered = offer.0 _ t.searched.lists K.checked.planned in
     let level = handed-back _ _ offered.level_is (level-current K.checked _ h) in
     let place = c.before.before.before.before.before.before.before.before.before.before.before.before.before.before.before.before.before.place.ensures _ K.checked.planned offered.ideal_is level in
-    let lowest = lowest-is _ c.before.before.before.before.before.before.before.before.before.before.before.lowest-count.ensures past after in
+    let lowest = lowest-is _ c.before.before.before.before.before.before.before.before.before.before.before.least-count.ensures past after in
     let risen = c.before.before.before.before.before.before.before.before.before.before.before.before.rise.ensures ∙ ap (rise_at start.args.plan.window.restoring start.args.i) (level ∙ sym offered.level_is) in
     let last = last-is start.args.width start.args.i (start.args.plan.window.length - 1 - start.args.i) c.before.before.before.before.before.before.before.before.before.before.before.before.before.before.before.Span-of.result.upto c.before.before.before.before.before.before.before.before.before.before.last-count.ensures past after risen in
     let from = from_is _ _ span.1.0 after in
@@ -131,7 +131,7 @@ take-position-spec =
     sub-left
     sub-left-2
     rise-requires
-    lowest-count-requires
+    least-count-requires
     last-count-requires
     mul-fill-row
     add-fill-row

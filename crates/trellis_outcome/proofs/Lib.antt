@@ -1,2 +1,0 @@
-pub mod Main
-pub mod Demand

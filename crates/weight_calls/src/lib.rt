@@ -1,2 +1,0 @@
-// The calls on what a level's error weighs, and on the window. `rdoq` passes them on.
-pub mod weighing;
