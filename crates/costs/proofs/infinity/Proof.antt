@@ -4,7 +4,7 @@ use lib.Ieee.{nan_bits, of_bits}
 use Rattle.costs.proofs.infinity.Statement.{statement}
 use Rattle.costs.proofs.infinity.Tie as tie
 
-float-from-bits-result : tie.Need-float-from-bits-result
+float-from-bits-result : tie.Need-float_from_bits-result
 unfolding nan_bits
 float-from-bits-result c = tt
 
@@ -12,5 +12,5 @@ returns : tie.Need-returns
 unfolding of_bits
 returns c = refl
 
-pub infinity-spec : {M : Type 1} → statement M
-infinity-spec = tie.close (tie.spec float-from-bits-result returns)
+pub infinity_spec : {M : Type 1} → statement M
+infinity_spec = tie.close (tie.spec float-from-bits-result returns)
