@@ -1,4 +1,6 @@
 // Packing of levels and splitting of values into a symbol and extra bits (document 01, module 1).
+#![tactic(auto)]
+
 ghost use Rattle.std.specs.Prelude.{◌≡◌, true, ◌≤◌, ◌<◌, ◌+◌, ◌*◌, ◌/◌, ◌%◌, ◌^◌, nat_abs};
 ghost use Rattle.packing.specs.Signed.{pack_signed, unpack_signed};
 ghost use Rattle.packing.specs.Hybrid.{split, top_bit, valid_config, read_hybrid, is_split, decoded};

@@ -1,4 +1,6 @@
 // The working room at its fixed values.
+#![tactic(auto)]
+
 ghost use Rattle.std.specs.Prelude.{◌≡◌, false, length, replicate};
 ghost use Rattle.std.specs.Float.{inf};
 

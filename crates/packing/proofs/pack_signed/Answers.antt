@@ -1,4 +1,3 @@
--- `packing::pack_signed` meets its contract: a negative level -(n + 1) is mirrored to n, with no overflow. Assumes nothing.
 use Prim.Native.Nat.{suc, ◌+◌, ◌-◌, ◌*◌, ◌≤◌}
 use mathlib.Core.Path.{◌≡◌, ap, ◌∙◌, subst}
 use mathlib.Core.Bool.{true, false, true≢false}
@@ -12,8 +11,7 @@ use mir.Syntax.{w32}
 use mir.Val.{SFits, to_z, of_z}
 use mir.ValLaws.{to_z-of_z}
 use Rattle.packing.specs.Signed.{pack_signed}
-use Rattle.packing.proofs.pack_signed.Statement.{statement}
-use Rattle.packing.proofs.pack_signed.Tie as tie
+use Rattle.packing.proofs.pack_signed.Goals as goal
 
 back : (v : ℤ) → nat_abs v ≤ 32768 → to_z w32 (of_z w32 v) ≡ v
 back (pos n) h = to_z-of_z w32 (pos n) (record { sfits = omega arith })
@@ -40,45 +38,32 @@ unfolding pack_signed
 not_negative (pos n) h t = (omega arith, tt)
 not_negative (negsuc n) h t = absurd (true≢false (subst (λ (z : ℤ). lt_z z (pos 0) ≡ false) (back (negsuc n) h) t))
 
-sub-result : tie.Need-overflow-sub-result
-sub-result c = rw (mirrored c.before.args.level c.before.requires c.if1.true) (small c.before.args.level c.before.requires)
+pub overflow_sub-result : goal.overflow_sub-result
+overflow_sub-result c = rw (mirrored c.args.level c.requires c.if-level-lt0.true) (small c.args.level c.requires)
 
-cast-result : tie.Need-overflow-cast-result
-cast-result c = rw (mirrored-back c.before.args.level c.before.requires c.if1.true) (tt, record { fits = omega arith })
+pub overflow_cast-result : goal.overflow_cast-result
+overflow_cast-result c = rw (mirrored-back c.args.level c.requires c.if-level-lt0.true) (tt, record { fits = omega arith })
 
-mul-result : tie.Need-overflow-mul-result
-mul-result c = rw (mirrored-back c.before.args.level c.before.requires c.if1.true) (record { fits = omega arith })
+pub overflow_mul-result : goal.overflow_mul-result
+overflow_mul-result c = rw (mirrored-back c.args.level c.requires c.if-level-lt0.true) (record { fits = omega arith })
 
-add-result : tie.Need-overflow-add-result
-add-result c = rw (mirrored-back c.before.args.level c.before.requires c.if1.true) (record { fits = omega arith })
+pub overflow_add-result : goal.overflow_add-result
+overflow_add-result c = rw (mirrored-back c.args.level c.requires c.if-level-lt0.true) (record { fits = omega arith })
 
-cast-result-2 : tie.Need-overflow-cast-result-2
-cast-result-2 c =
-    rw (back c.before.args.level c.before.requires)
-    ((not_negative c.before.args.level c.before.requires c.if1.false).1, record { fits = omega arith })
+pub overflow_cast-result-else-level-lt0 : goal.overflow_cast-result-else-level-lt0
+overflow_cast-result-else-level-lt0 c =
+    rw (back c.args.level c.requires)
+    ((not_negative c.args.level c.requires c.if-level-lt0.false).1, record { fits = omega arith })
 
-mul-result-2 : tie.Need-overflow-mul-result-2
-mul-result-2 c = rw (back c.before.args.level c.before.requires) (record { fits = omega arith })
+pub overflow_mul-result-else-level-lt0 : goal.overflow_mul-result-else-level-lt0
+overflow_mul-result-else-level-lt0 c = rw (back c.args.level c.requires) (record { fits = omega arith })
 
-returns : tie.Need-returns
-returns c =
-    rw (mirrored-back c.before.args.level c.before.requires c.if1.true)
-    (negative c.before.args.level c.before.requires c.if1.true)
+pub returns-then-level-lt0 : goal.returns-then-level-lt0
+returns-then-level-lt0 c =
+    rw (mirrored-back c.args.level c.requires c.if-level-lt0.true)
+    (negative c.args.level c.requires c.if-level-lt0.true)
 
-returns-2 : tie.Need-returns-2
-returns-2 c =
-    rw (back c.before.args.level c.before.requires)
-    (not_negative c.before.args.level c.before.requires c.if1.false).0
-
-pub pack-signed-spec : {M : Type 1} → statement M
-pack-signed-spec =
-    tie.close
-    (tie.spec
-    sub-result
-    cast-result
-    mul-result
-    add-result
-    cast-result-2
-    mul-result-2
-    returns
-    returns-2)
+pub returns-else-level-lt0 : goal.returns-else-level-lt0
+returns-else-level-lt0 c =
+    rw (back c.args.level c.requires)
+    (not_negative c.args.level c.requires c.if-level-lt0.false).0

@@ -1,20 +1,14 @@
--- `packing::unpack_signed` meets its contract: an odd value 2n + 1 stands for -1 - n. Assumes nothing.
 use Prim.Native.Nat.{ℕ, zero, suc, ◌+◌, ◌-◌, ◌/◌, ◌%◌, ◌≤◌}
 use mathlib.Core.Path.{◌≡◌, refl, ap, ◌∙◌}
 use native.Mathlib.Nat.{zero-add}
 use native.Mathlib.Omega.{arith}
-use borrow.Author.Rules.{rules}
 use borrow.Author.Tests.{eq-eqb, ne_eqb}
 use lib.IntN.{ℤ, pos, negsuc, ◌-ℤ◌}
 use mir.Syntax.{w32}
 use mir.Val.{SFits, to_z, of_z}
 use mir.ValLaws.{to_z_pos, to_z-of_z}
 use Rattle.packing.specs.Signed.{unpack_signed}
-use Rattle.packing.proofs.unpack_signed.Statement.{statement}
-use Rattle.packing.proofs.unpack_signed.Tie as tie
-
-cast-half : tie.Need-overflow-cast-half
-cast-half c = search rules
+use Rattle.packing.proofs.unpack_signed.Goals as goal
 
 half : (u : ℕ) → u ≤ 65536 → to_z w32 (u / 2) ≡ pos (u / 2)
 half u h = to_z_pos w32 (u / 2) (omega arith)
@@ -39,16 +33,13 @@ odd u ne =
     let up : (u + 1) / 2 ≡ suc (u / 2) = omega arith in
     rw (ne_eqb (u % 2) 0 ne, up)
 
-sub-result : tie.Need-overflow-sub-result
-sub-result c = rw (mirrored c.before.args.value c.before.requires) (small c.before.args.value c.before.requires)
+pub overflow_sub-result : goal.overflow_sub-result
+overflow_sub-result c = rw (mirrored c.args.value c.requires) (small c.args.value c.requires)
 
-returns : tie.Need-returns
-returns c = half c.before.args.value c.before.requires ∙ even c.before.args.value c.if1.true
+pub returns-then-value-eq0 : goal.returns-then-value-eq0
+returns-then-value-eq0 c = half c.args.value c.requires ∙ even c.args.value c.if-value-eq0.true
 
-returns-2 : tie.Need-returns-2
-returns-2 c =
-    let u = c.before.args.value in
-    ap (λ (z : ℤ). to_z w32 (of_z w32 z)) (mirrored u c.before.requires) ∙ to_z-of_z w32 (negsuc (u / 2)) (small u c.before.requires) ∙ odd u c.if1.false
-
-pub unpack-signed-spec : {M : Type 1} → statement M
-unpack-signed-spec = tie.close (tie.spec cast-half sub-result returns returns-2)
+pub returns-else-value-eq0 : goal.returns-else-value-eq0
+returns-else-value-eq0 c =
+    let u = c.args.value in
+    ap (λ (z : ℤ). to_z w32 (of_z w32 z)) (mirrored u c.requires) ∙ to_z-of_z w32 (negsuc (u / 2)) (small u c.requires) ∙ odd u c.if-value-eq0.false

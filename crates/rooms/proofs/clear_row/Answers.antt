@@ -1,0 +1,26 @@
+use mathlib.Core.Path.{refl, ap, subst, ◌∙◌}
+use mathlib.Core.Bool.{false}
+use Prim.Native.Nat.{ℕ, ◌-◌, ◌<◌, ◌≤◌, zero-le}
+use native.Mathlib.Numerals.{add-one-le}
+use native.Mathlib.Omega.{arith}
+use lib.ListN.{set, length-set}
+use lib.Ieee.{Float, inf}
+use Rattle.rooms.proofs.Fill.{fill_more, filled}
+use Rattle.rooms.proofs.clear_row.Goals as goal
+
+pub loop-i-init : goal.loop-i-init
+loop-i-init c = (refl, (zero-le, (refl, refl)))
+
+pub loop-i-smaller : goal.loop-i-smaller
+loop-i-smaller c = omega arith
+
+pub loop-i-preserved : goal.loop-i-preserved
+loop-i-preserved c =
+    let at = c.before.before in
+    let inv = at.loop-i.invariant in
+    (inv.0, (add-one-le c.loop-i-test.true, (ap (λ (x : Float). set at.loop-i.row at.loop-i.i x) c.infinity.ensures ∙ fill_more at.loop-i.i (inf false) at.args.row.now (subst (λ (k : ℕ). at.loop-i.i < k) inv.0 c.loop-i-test.true) inv.1.1.0, length-set at.loop-i.row at.loop-i.i c.infinity.result ∙ inv.1.1.1)))
+
+pub returns : goal.returns
+returns c =
+    let at = c.loop-i in
+    filled at.i (inf false) c.args.row.now (subst (λ (k : ℕ). at.i ≤ k) at.invariant.0 at.invariant.1.0) (subst (λ (k : ℕ). k ≤ at.i) at.invariant.0 c.loop-i-test.false) at.invariant.1.1.0
