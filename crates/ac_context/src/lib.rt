@@ -1,4 +1,6 @@
 // The contexts of a block's tokens: those of src/ac_context.rs that the level search uses.
+#![tactic(auto)]
+
 ghost use Rattle.std.specs.Prelude.{◌≡◌, ◌+◌, ◌-◌, ◌*◌, ◌<◌, ◌≤◌, ◌^◌};
 ghost use Rattle.ac_context.specs.Contexts.{block_context, fine_block_context, non_zero_bucket, fine_non_zero_context, fine_zero_density_contexts_offset, zero_density_context, fine_block_contexts, Covered, Coefficient, CountsAlike, Logarithm, is_coefficient};
 

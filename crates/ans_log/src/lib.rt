@@ -1,5 +1,7 @@
 // A logarithm to base 2 from a float's bits, as the Rust's dirty_log2f: its own text is absent, so that the series was chosen (docs/DIFFERENCES.md).
 // Additions on the bits wrap; each step of f32 is rounded once, none is fused.
+#![tactic(auto)]
+
 ghost use Rattle.std.specs.Prelude.{◌≡◌, not, T, is_nan};
 ghost use Rattle.ans_log.specs.Log.{dirty_log2};
 

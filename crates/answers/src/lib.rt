@@ -1,2 +1,4 @@
 // What the public calls on single values and prices answer.
+#![tactic(auto)]
+
 pub mod answer;

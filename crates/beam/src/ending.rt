@@ -13,7 +13,7 @@ use steps::reading::Plan;
 use steps::tokens;
 
 // The least cost, and the path that has it.
-#[derive(Drop)]
+#[derive(Clone, Copy)]
 pub struct Best {
     pub cost: f32,
     pub path: usize,

@@ -8,7 +8,7 @@ ghost use Rattle.beam_paths.specs.Entries.{named};
 use crate::Paths;
 
 // The first `length` entries are the counts, in the order in which they were named.
-#[derive(Drop)]
+#[derive(Clone, Copy)]
 pub struct Counts {
     pub length: usize,
     pub counts: [usize; 6],

@@ -3,14 +3,14 @@ ghost use Rattle.std.specs.Prelude.{◌≡◌};
 ghost use Rattle.beam_paths.specs.Entries.{considered};
 
 // A cost, and the way that has it: the path behind the position, times 16, and the index of the candidate. As wide as the cost, so that there is no padding to copy.
-#[derive(Drop)]
+#[derive(Clone, Copy)]
 pub struct Best {
     pub cost: f32,
     pub choice: u32,
 }
 
 // A path: its count, and its cost for `prev` 0 and 1.
-#[derive(Drop)]
+#[derive(Clone, Copy)]
 pub struct Entry {
     pub remaining: usize,
     pub first: Best,

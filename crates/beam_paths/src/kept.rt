@@ -10,7 +10,7 @@ ghost use Rattle.beam_paths.specs.Entries.{EntryIs, KeptIs};
 use crate::entry::{Best, Entry};
 use crate::{Paths, Step};
 
-#[derive(Drop)]
+#[derive(Clone, Copy)]
 pub struct Kept {
     pub count: usize,
     pub one: Entry,

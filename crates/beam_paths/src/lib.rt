@@ -4,7 +4,7 @@ pub mod entry;
 pub mod kept;
 
 // At most three paths. The cost for `prev` p of path j stands at 2 j + p.
-#[derive(Drop)]
+#[derive(Clone, Copy)]
 pub struct Paths {
     pub count: usize,
     pub remaining: [usize; 3],
@@ -12,7 +12,7 @@ pub struct Paths {
 }
 
 // The paths from a position on, and at 2 j + p the way that path j came by for `prev` p: the path behind the position, times 16, and the index of the candidate.
-#[derive(Drop)]
+#[derive(Clone, Copy)]
 pub struct Step {
     pub paths: Paths,
     pub choices: [u8; 6],

@@ -1,9 +1,11 @@
 // The dequantisation bias: what a decoder makes of a quantised level.
+#![tactic(auto)]
+
 ghost use Rattle.std.specs.Prelude.{◌≡◌, T};
 ghost use Rattle.bias.specs.Level.{biased, is_level, valid_bias};
 
 // One channel's bias: the size of a level of ±1, and the numerator of the correction of larger ones.
-#[derive(Drop)]
+#[derive(Clone, Copy)]
 pub struct DequantBias {
     pub one: f32,
     pub numerator: f32,

@@ -2,7 +2,7 @@
 
 // A block's place in the format: its sides in 8-sample units, strategy code, channel (X = 0, Y = 1, B = 2), quant class
 // and predicted nonzero count.
-#[derive(Drop)]
+#[derive(Clone, Copy)]
 pub struct Shape {
     pub cx: u32,
     pub cy: u32,
@@ -13,7 +13,7 @@ pub struct Shape {
 }
 
 // What a search answers: the cost and the count of nonzero levels from scan position c; the count alone; or the number of the refusal.
-#[derive(Drop)]
+#[derive(Clone, Copy)]
 pub enum Answer {
     Cost { cost: f32, count: u32 },
     Count(u32),

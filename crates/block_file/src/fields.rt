@@ -73,7 +73,7 @@ pub fn room_at(bytes: &[u8], at: usize, most: usize) -> usize
 }
 
 // What a block's record holds before its rooms and lists, with the half-width that was set before it.
-#[derive(Drop)]
+#[derive(Clone, Copy)]
 pub struct Head {
     pub shape: Shape,
     pub settings: SearchSettings,

@@ -28,7 +28,7 @@ pub const SHORT: u8 = 1;
 pub const TOO_LONG: u8 = 2;
 
 // A list: where its entries start, how many there are, and where the next field stands. All 0 unless it is whole.
-#[derive(Drop)]
+#[derive(Clone, Copy)]
 pub struct List {
     pub state: u8,
     pub start: usize,
@@ -114,7 +114,7 @@ fn up_to(end: usize) -> List
 }
 
 // A book's record. It is whole where the last list is, and ends where that does.
-#[derive(Drop)]
+#[derive(Clone, Copy)]
 pub struct BookRecord {
     pub map: List,
     pub configs: List,
@@ -146,7 +146,7 @@ pub fn book_record(bytes: &[u8]) -> BookRecord
 }
 
 // A block's record, as a book's.
-#[derive(Drop)]
+#[derive(Clone, Copy)]
 pub struct BlockRecord {
     pub levels: List,
     pub scan: List,
@@ -201,7 +201,7 @@ pub const UNREADABLE: u8 = 5;
 pub const WIDTH: u8 = 6;
 
 // What bytes begin with: a record of this kind and length; or SHORT or UNREADABLE, with length 0.
-#[derive(Drop)]
+#[derive(Clone, Copy)]
 pub struct Measured {
     pub kind: u8,
     pub length: usize,

@@ -14,7 +14,7 @@ pub fn input_room() -> [u8; INPUT] {
 
 // What is held of the input: the bytes from `start` to `end`. The first `length` of them are a record of this kind, and `passed` bytes
 // of the input came before it.
-#[derive(Drop)]
+#[derive(Clone, Copy)]
 pub struct Held {
     pub kind: u8,
     pub start: usize,

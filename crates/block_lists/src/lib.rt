@@ -9,7 +9,7 @@ use block_file::record::BlockRecord;
 use block_file::{fields, load, record};
 
 // The lengths of the latest book's lists, and its number of clusters.
-#[derive(Drop)]
+#[derive(Clone, Copy)]
 pub struct BookLengths {
     pub clusters: u32,
     pub map: usize,
@@ -74,7 +74,7 @@ pub fn load_block(
 }
 
 // The lengths of the rooms that a block's record asks for.
-#[derive(Drop)]
+#[derive(Clone, Copy)]
 pub struct RoomLengths {
     pub choices: usize,
     pub row_a: usize,

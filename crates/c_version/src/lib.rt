@@ -1,4 +1,6 @@
 // Which library a program was linked with, so that it can be compared with the header that it was compiled with. `include/rdoq.h` declares the call.
+#![tactic(auto)]
+
 ghost use Rattle.std.specs.Prelude.{◌≡◌};
 ghost use Rattle.c_version.specs.Version.{version_number};
 

@@ -37,7 +37,7 @@ fn end_line(line: &[u8], n: usize, out: &mut [u8], used: usize) -> usize
     at + printed
 }
 
-#[derive(Drop)]
+#[derive(Clone, Copy)]
 struct State {
     n: usize,
     used: usize,

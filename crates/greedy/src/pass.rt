@@ -18,7 +18,7 @@ use greedy_cost::{cost, run};
 use steps::reading::Plan;
 
 // The nonzero levels behind the position, and those of the whole block, from scan position c on.
-#[derive(Drop)]
+#[derive(Clone, Copy)]
 pub struct Counts {
     pub later: usize,
     pub total: usize,

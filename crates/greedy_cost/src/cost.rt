@@ -15,7 +15,7 @@ use steps::Place;
 use steps::reading::Plan;
 
 // The cheapest candidate so far.
-#[derive(Drop)]
+#[derive(Clone, Copy)]
 pub struct Best {
     pub cost: f32,
     pub level: i32,
@@ -23,7 +23,7 @@ pub struct Best {
 
 // What stands around a position: the nonzero levels behind it and of all others, whether the level in front is nonzero, and the
 // price of the run.
-#[derive(Drop)]
+#[derive(Clone, Copy)]
 pub struct Around {
     pub later: usize,
     pub others: usize,

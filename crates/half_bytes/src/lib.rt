@@ -1,4 +1,6 @@
 // Choices in half bytes.
+#![tactic(auto)]
+
 ghost use Rattle.std.specs.Prelude.{◌≡◌, ◌+◌, ◌*◌, ◌<◌, ◌≤◌, length, get_or, set};
 ghost use Rattle.half_bytes.specs.Packed.{unpacked, wide, kept};
 

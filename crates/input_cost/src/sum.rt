@@ -18,7 +18,7 @@ use steps::reading::Plan;
 use steps::{Place, tokens};
 
 // What the levels from a window position on cost, and how many of them are nonzero.
-#[derive(Drop)]
+#[derive(Clone, Copy)]
 pub struct Sum {
     pub cost: f32,
     pub remaining: usize,

@@ -12,7 +12,7 @@ use search_lines::OUT;
 use weights::HALF_WIDTH;
 
 // Where the program stands: the latest book and half-width, the next block's number, and how much of `out` is used.
-#[derive(Drop)]
+#[derive(Clone, Copy)]
 struct State {
     book: BookLengths,
     half_width: u32,

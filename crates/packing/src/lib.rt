@@ -5,14 +5,14 @@ ghost use Rattle.std.specs.Prelude.{◌≡◌, true, ◌≤◌, ◌<◌, ◌+◌
 ghost use Rattle.packing.specs.Signed.{pack_signed, unpack_signed};
 ghost use Rattle.packing.specs.Hybrid.{split, top_bit, valid_config, read_hybrid, is_split, decoded};
 
-#[derive(Drop)]
+#[derive(Clone, Copy)]
 pub struct HybridUintConfig {
     pub split_exponent: u32,
     pub msb_in_token: u32,
     pub lsb_in_token: u32,
 }
 
-#[derive(Drop)]
+#[derive(Clone, Copy)]
 pub struct Split {
     pub symbol: u32,
     pub extra_bits: u32,

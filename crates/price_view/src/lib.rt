@@ -3,7 +3,7 @@
 ghost use Rattle.std.specs.Prelude.{◌≡◌};
 ghost use Rattle.price_view.specs.View.{view_of};
 
-#[derive(Drop)]
+#[derive(Clone, Copy)]
 pub struct PriceView<'a> {
     pub clusters: u32,
     pub map: &'a [u8],

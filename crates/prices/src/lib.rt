@@ -6,7 +6,7 @@ ghost use Rattle.prices.specs.Checks.{book_refusal, ClusterPassed};
 use packing::{HybridUintConfig, Split, uint_encode_with_config};
 
 // The prices of a value in two contexts.
-#[derive(Drop)]
+#[derive(Clone, Copy)]
 pub struct Pair {
     pub first: f32,
     pub second: f32,

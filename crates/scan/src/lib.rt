@@ -1,4 +1,6 @@
 // Check 11: the scan holds each number below its length once.
+#![tactic(auto)]
+
 ghost use Rattle.std.specs.Prelude.{◌≡◌, true, ℕ, ◌+◌, ◌*◌, ◌/◌, ◌%◌, ◌<◌, ◌≤◌, length, get_or};
 ghost use Rattle.scan.specs.Marks.{Marked, Marks, marked_below, byte_at, bit_at};
 ghost use Rattle.scan.specs.Scan.{each_once};

@@ -11,7 +11,7 @@ use steps::reading::Plan;
 use steps::tokens;
 
 // The nonzero levels past the window, and what they cost behind `prev` 0 and 1.
-#[derive(Drop)]
+#[derive(Clone, Copy)]
 pub struct Start {
     pub past: usize,
     pub zero: f32,

@@ -14,7 +14,7 @@ use block::{Answer, Shape};
 use weights::{SearchSettings, Settings};
 
 // Which search. The last two are one search by two walks.
-#[derive(Drop)]
+#[derive(Clone, Copy)]
 pub enum Search {
     Greedy,
     Beam,
@@ -23,7 +23,7 @@ pub enum Search {
 }
 
 // The room that check 14 asks: choice bytes a window position, and costs in each row.
-#[derive(Drop)]
+#[derive(Clone, Copy)]
 pub struct Asked {
     pub bytes: usize,
     pub floats: usize,

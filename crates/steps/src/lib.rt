@@ -18,7 +18,7 @@ use prices::Pair;
 
 // All that prices a level at one window position: the scan position, the covered blocks and their logarithm, the first coefficient
 // context, the distortion's weight, the ideal, the bias, and the rates of the level 0 and of any other.
-#[derive(Drop)]
+#[derive(Clone, Copy)]
 pub struct Place {
     pub k: usize,
     pub covered: usize,

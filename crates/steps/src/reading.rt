@@ -16,7 +16,7 @@ use block::Shape;
 use weights::{Settings, Window};
 
 // What a block's shape, settings, bias and scale give; `far_weight` is the weight of each position past the base length.
-#[derive(Drop)]
+#[derive(Clone, Copy)]
 pub struct Plan {
     pub covered: usize,
     pub log2: u32,
@@ -34,7 +34,7 @@ pub struct Plan {
 }
 
 // What a window position offers beside its candidates, which stand in an array: the ideal, how many candidates there are, and the level that is there.
-#[derive(Drop)]
+#[derive(Clone, Copy)]
 pub struct Offer {
     pub ideal: f32,
     pub count: usize,

@@ -17,7 +17,7 @@ use crate::reading::Plan;
 use prices::Pair;
 
 // How far the tokens are added up: the next scan position, the nonzero levels that remain there, `prev`, and the sums for both values of `prev` where the tail begins.
-#[derive(Drop)]
+#[derive(Clone, Copy)]
 pub(crate) struct Tail {
     pub k: usize,
     pub remaining: usize,
@@ -27,7 +27,7 @@ pub(crate) struct Tail {
 }
 
 // Up to which scan position and down to which count the contexts stay, and the clusters of both.
-#[derive(Drop)]
+#[derive(Clone, Copy)]
 struct Stretch {
     end: usize,
     least: usize,

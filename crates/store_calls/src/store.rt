@@ -15,7 +15,7 @@ pub const NOT_HELD: u32 = 35;
 pub const SHORT: u32 = 36;
 
 // The length of a run, or the number of the refusal.
-#[derive(Drop)]
+#[derive(Clone, Copy)]
 pub enum Length {
     Value(usize),
     Refused(u32),

@@ -9,7 +9,7 @@ ghost use Rattle.tallying.specs.Tally.{tally_of, are_tokens, shared_checks};
 ghost use Rattle.tallying.specs.Counting.{Countable, SomeAdded, SomeRemoved};
 
 // Where a token is counted, and its extra bits.
-#[derive(Drop)]
+#[derive(Clone, Copy)]
 struct Use {
     place: usize,
     extra: u64,
@@ -38,7 +38,7 @@ fn use_of(map: &[u8], configs: &[u8], context: u32, value: u32) -> Use
 }
 
 // How many tokens were counted, and the total of extra bits then.
-#[derive(Drop)]
+#[derive(Clone, Copy)]
 pub struct Counted {
     pub done: usize,
     pub extra: u64,

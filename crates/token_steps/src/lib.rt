@@ -10,7 +10,7 @@ use block::Shape;
 use packing::Split;
 
 // What a block's shape gives: the covered blocks and their logarithm, the first coefficient context, and the count's context.
-#[derive(Drop)]
+#[derive(Clone, Copy)]
 pub struct Layout {
     pub covered: usize,
     pub log2: u32,
@@ -68,7 +68,7 @@ pub fn read_in(map: &[u8], configs: &[u8], context: usize, symbol: u32, bits: u3
 }
 
 // A level's token as it is written, and whether the level is nonzero.
-#[derive(Drop)]
+#[derive(Clone, Copy)]
 pub struct Step {
     pub context: usize,
     pub symbol: u32,

@@ -18,7 +18,7 @@ use steps::reading::Plan;
 use trellis_table::{count, exchange};
 
 // The least cost and its count, and the nonzero input levels past the window and from its first position on.
-#[derive(Drop)]
+#[derive(Clone, Copy)]
 pub struct Found {
     pub cost: f32,
     pub count: usize,

@@ -13,7 +13,7 @@ ghost use Rattle.trellis_choice.specs.Chosen.{with, is_tie, Known, ZeroAt, Settl
 
 use crate::locals::Least;
 
-#[derive(Drop)]
+#[derive(Clone, Copy)]
 pub struct Chosen {
     pub cost: f32,
     pub choice: u8,

@@ -9,7 +9,7 @@ ghost use Rattle.trellis_choice.specs.Locals.{listed, Usable, nothing, considere
 use steps::Place;
 
 // The first least of some costs, what it took the place of, and its candidate's index.
-#[derive(Drop)]
+#[derive(Clone, Copy)]
 pub struct Least {
     pub cost: f32,
     pub before: f32,
@@ -17,7 +17,7 @@ pub struct Least {
 }
 
 // Of the local costs for `prev` 0 and 1, which stand in two arrays: the first least among those of nonzero candidates, and those of 0.
-#[derive(Drop)]
+#[derive(Clone, Copy)]
 pub struct Locals {
     pub least_first: Least,
     pub least_second: Least,

@@ -19,7 +19,7 @@ use trellis_choice::locals::Locals;
 use trellis_choice::{chosen, locals};
 
 // The counts that may be read of the next row: from `from` up to `upto`, the row's first count being `base`.
-#[derive(Drop)]
+#[derive(Clone, Copy)]
 pub struct Span {
     pub base: usize,
     pub from: usize,
@@ -27,7 +27,7 @@ pub struct Span {
 }
 
 // The two states of a count.
-#[derive(Drop)]
+#[derive(Clone, Copy)]
 pub struct States {
     pub first: Chosen,
     pub second: Chosen,

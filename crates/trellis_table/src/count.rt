@@ -8,7 +8,7 @@ use crate::position::Counts;
 use steps::reading::Plan;
 
 // The least cost, and the count that has it.
-#[derive(Drop)]
+#[derive(Clone, Copy)]
 pub struct Best {
     pub cost: f32,
     pub count: usize,

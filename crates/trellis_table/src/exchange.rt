@@ -9,7 +9,7 @@ use crate::position::{Counts, Step};
 use steps::reading::Plan;
 
 // Where the costs of the first position stand, and for which counts.
-#[derive(Drop)]
+#[derive(Clone, Copy)]
 pub struct Last {
     pub step: Step,
     pub in_first: bool,

@@ -13,14 +13,14 @@ use steps::reading::Plan;
 use trellis_row::row::Span;
 
 // The counts that a row holds.
-#[derive(Drop)]
+#[derive(Clone, Copy)]
 pub struct Counts {
     pub least: usize,
     pub most: usize,
 }
 
 // A position's row, and the nonzero input levels from the position on.
-#[derive(Drop)]
+#[derive(Clone, Copy)]
 pub struct Step {
     pub counts: Counts,
     pub after: usize,

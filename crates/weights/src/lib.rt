@@ -1,18 +1,20 @@
 // Lambda, the distortion's weights and the lengths of a search's window.
+#![tactic(auto)]
+
 ghost use Rattle.std.specs.Prelude.{◌≡◌, ◌≤◌, max, min};
 ghost use Rattle.weights.specs.Window.{window_for, window_of, base_len};
 ghost use Rattle.weights.specs.Weights.{clamp, lambda_of, chroma_weight, distortion_weight};
 ghost use Rattle.weights.specs.Settings.{within, valid_settings, is_distance, channel_scale, scaled_weight, restore_rate};
 
 // How many positions a search covers, and how many of them it may restore.
-#[derive(Drop)]
+#[derive(Clone, Copy)]
 pub struct Window {
     pub length: usize,
     pub restoring: usize,
 }
 
 // What a search weighs distortion and bits by.
-#[derive(Drop)]
+#[derive(Clone, Copy)]
 pub struct Settings {
     pub channel_weight: f32,
     pub lambda: f32,
@@ -21,7 +23,7 @@ pub struct Settings {
 }
 
 // What a caller sets: what a search weighs by, and the half-width of the trellis's band.
-#[derive(Drop)]
+#[derive(Clone, Copy)]
 pub struct SearchSettings {
     pub weighing: Settings,
     pub half_width: u32,

@@ -1,0 +1,18 @@
+use mathlib.Core.Path.{sym, ap, ◌∙◌, subst}
+use lib.Dec.{T}
+use lib.IntN.{ℤ}
+use Rattle.candidates.specs.Candidates.{is_current, filled, filler, candidates_of}
+use Rattle.candidates.proofs.Levels.{current-size, in-back, wider}
+use Rattle.candidates.proofs.rdoq_candidates.Goals as goal
+
+pub list_candidates-count-requires : goal.list_candidates-count-requires
+list_candidates-count-requires c = let start = c.before in
+    let q = start.args.current in
+    record { fact_1 = start.requires.fact_1; fact_2 = subst (λ (z : ℤ). T (is_current z)) (sym (in-back q (wider (current-size q start.requires.fact_2)))) start.requires.fact_2 }
+
+pub returns : goal.returns
+returns c =
+    let start = c.before.before in
+    let q = start.args.current in
+    c.list_candidates-count.ensures
+    ∙ ap (λ (z : ℤ). filled (filler z start.args.restore) (candidates_of start.args.ideal z start.args.restore)) (in-back q (wider (current-size q start.requires.fact_2)))

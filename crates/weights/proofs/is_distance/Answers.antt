@@ -1,0 +1,10 @@
+use lib.Ieee.{of_bits}
+use Rattle.weights.specs.Settings.{is_distance}
+use Rattle.weights.proofs.is_distance.Goals as goal
+
+pub between-requires : goal.between-requires
+between-requires c = tt
+
+pub returns : goal.returns
+unfolding is_distance of_bits
+returns c = c.between.ensures
