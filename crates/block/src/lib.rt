@@ -1,4 +1,5 @@
 // What a search is given besides the price book, and what it answers.
+#![tactic(auto)]
 
 // A block's place in the format: its sides in 8-sample units, strategy code, channel (X = 0, Y = 1, B = 2), quant class
 // and predicted nonzero count.

@@ -43,6 +43,7 @@ module _ (book : Book) (b : Block) where
 
   positions-fit : (w : ℕ) (v : Window) (i n : ℕ) (q : Position) → Mem q (positions_from w v book b i n) → (r p : ℕ) (c : ℤ) → T (fits binary32 (q.price r p c))
   unfolding positions_from position_at
+  positions-fit w v i zero q x' r p c = elim x' [ ]
   positions-fit w v i (suc n) q (here e) r p c = subst (λ (x : Position). T (fits binary32 (x.price r p c))) (sym e) (local_fits i r p c)
   positions-fit w v i (suc n) q (there m) r p c = positions-fit w v (suc i) n q m r p c
 

@@ -1,4 +1,6 @@
 // What a listed block reads from its neighbours' cells and writes into its own.
+#![tactic(auto)]
+
 ghost use Rattle.std.specs.Prelude.{◌≡◌, List, ◌∷◌, ◌+◌, ◌-◌, ◌*◌, ◌/◌, ◌≤◌, ◌<◌, Float, length, get_or};
 ghost use Rattle.group_cells.specs.Cells.{Counted, predicted};
 ghost use Rattle.group_cells.specs.Grid.{Grid};

@@ -1,4 +1,6 @@
 // The price of a value in a context, from a book that passed its checks (document 01, module 4).
+#![tactic(auto)]
+
 ghost use Rattle.std.specs.Prelude.{◌≡◌, true, ◌≤◌, ◌<◌, ◌+◌, ◌*◌, length, get_or};
 ghost use Rattle.prices.specs.Book.{book_in, price, symbol_at, cluster_price, cluster_valid, cluster_symbol, cluster_extra};
 ghost use Rattle.prices.specs.Checks.{book_refusal, ClusterPassed};

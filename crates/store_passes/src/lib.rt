@@ -1,4 +1,6 @@
 // Passes over a store's record: find a run, add up the others, take a run out, write one.
+#![tactic(auto)]
+
 ghost use Rattle.std.specs.Prelude.{◌≡◌, [], ◌∷◌, ℕ, ◌+◌, ◌*◌, ◌≤◌, ◌<◌, cond, eqb, length, get_or};
 ghost use Rattle.store_record.specs.Placed.{placed};
 ghost use Rattle.store_record.specs.Runs.{runs_from, others, live, end_of};

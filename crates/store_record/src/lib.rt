@@ -1,4 +1,6 @@
 // A store of token runs in a lent room (ticket 14): check 37 of its record.
+#![tactic(auto)]
+
 ghost use Rattle.std.specs.Prelude.{◌≡◌, ℕ, ◌≤◌, length, get_or};
 ghost use Rattle.store_record.specs.Runs.{run, runs_from, valid_record};
 ghost use Rattle.store_record.specs.Marks.{fits, passes};

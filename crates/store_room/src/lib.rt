@@ -1,4 +1,6 @@
 // Tokens copied and moved within a store's room.
+#![tactic(auto)]
+
 ghost use Rattle.std.specs.Prelude.{◌≡◌, true, ◌+◌, ◌≤◌, length, get_or, take, drop};
 ghost use Rattle.store_record.specs.Placed.{placed};
 ghost use Rattle.store_record.specs.Runs.{runs_from, in_order};

@@ -24,6 +24,6 @@ float_from_bits-a c =
 pub returns : goal.returns
 unfolding dirty_log2 moved of_parts series of_bits
 returns c =
-    let i.value = c.wrapping_add_u32-i.ensures in
-    ap₂ (λ (i.value a : ℕ). of_parts (sub binary32 (of_int binary32 (pos (i.value / 8388608))) (fin false 127 (pos 0))) (of_bits binary32 a)) i.value
-    (c.wrapping_add_u32-a.ensures ∙ ap (λ (j : ℕ). (j % 8388608 + 1060439283) % 2 ^ 32) i.value)
+    let same = c.wrapping_add_u32-i.ensures.value in
+    ap₂ (λ (i a : ℕ). of_parts (sub binary32 (of_int binary32 (pos (i / 8388608))) (fin false 127 (pos 0))) (of_bits binary32 a)) same
+    (c.wrapping_add_u32-a.ensures.value ∙ ap (λ (j : ℕ). (j % 8388608 + 1060439283) % 2 ^ 32) same)
