@@ -1,4 +1,6 @@
 // The steps that the searches share.
+#![tactic(auto)]
+
 pub mod reading;
 mod tail;
 pub mod tokens;

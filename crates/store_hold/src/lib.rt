@@ -1,4 +1,6 @@
 // Tokens put into a store that has place for them, with its runs moved together where that is needed.
+#![tactic(auto)]
+
 ghost use Rattle.std.specs.Prelude.{◌≡◌, true, ◌+◌, ◌≤◌, ◌<◌, length};
 ghost use Rattle.store_record.specs.Runs.{runs_from, runs_of, in_order, others, live};
 ghost use Rattle.store_map.specs.Store.{store_of, right, stored};

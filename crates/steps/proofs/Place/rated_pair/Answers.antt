@@ -1,0 +1,25 @@
+use lib.Ieee.{Float, mul, binary32}
+use native.Mathlib.Nat.{add-zero}
+use mathlib.Core.Path.{◌≡◌}
+use Rattle.steps.proofs.Zero.{packed-value, level-back}
+use native.Mathlib.Omega.{arith}
+use Rattle.steps.specs.Place.{rated_in}
+use Rattle.steps.proofs.Place.rated_pair.Goals as goal
+
+rated : {r r' x x' : Float} → r ≡ r' → x ≡ x' → mul binary32 r x ≡ mul binary32 r' x'
+rated p q = cc
+
+pub token_bits_pair-bits-requires : goal.token_bits_pair-bits-requires
+token_bits_pair-bits-requires c = let start = c.before.before.before.before.before in
+    let packed = rw (level-back _ start.requires.t) at c.pack_signed-value.ensures in
+    record { ready_value = start.requires.ready_value; context_bound = omega (arith, start.requires.context_bound); value_bound = rw packed (packed-value _ start.requires.t) }
+
+pub returns : goal.returns
+unfolding rated_in
+returns c =
+    let start = c.before.before.before.before.before.before.before.before.before in
+    let level = start.requires.t in
+    let packed = rw (level-back _ level) at c.pack_signed-value.ensures in
+    let rate = rw (level-back _ level) at c.rate-rate.ensures in
+    let bits = rw packed at c.token_bits_pair-bits.ensures in
+    rw (add-zero start.args.context) (rated rate bits.first_value, rated rate bits.second_value)

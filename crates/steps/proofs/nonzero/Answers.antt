@@ -1,0 +1,9 @@
+use Rattle.steps.proofs.Zero.{zero-nz, other-nz}
+use mathlib.Core.Path.{sym}
+use Rattle.steps.proofs.nonzero.Goals as goal
+
+pub returns-then-level-eq0 : goal.returns-then-level-eq0
+returns-then-level-eq0 c = sym (zero-nz _ c.ranges.level c.if-level-eq0.true)
+
+pub returns-else-level-eq0 : goal.returns-else-level-eq0
+returns-else-level-eq0 c = sym (other-nz _ c.if-level-eq0.false)

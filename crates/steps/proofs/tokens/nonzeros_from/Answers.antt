@@ -1,0 +1,15 @@
+use native.Mathlib.Omega.{arith}
+use Rattle.steps.proofs.Ordered.{among-rest}
+use Rattle.steps.proofs.tokens.nonzeros_from.Goals as goal
+
+pub overflow_sub-result : goal.overflow_sub-result
+overflow_sub-result c =
+    let start = c.before.before.before.before in
+    let rest = among-rest start.args.scan.now start.args.levels.now start.requires.perm.0 start.args.from start.requires.from_in_bounds in
+    omega (arith, rest, c.nonzeros_in.ensures, c.nonzeros_between-2.ensures)
+
+pub returns : goal.returns
+returns c =
+    let start = c.before.before.before.before in
+    let rest = among-rest start.args.scan.now start.args.levels.now start.requires.perm.0 start.args.from start.requires.from_in_bounds in
+    omega (arith, rest, c.nonzeros_in.ensures, c.nonzeros_between-2.ensures)
