@@ -1,4 +1,6 @@
 // Checks 7 to 14, 18 and 26, in the order in which they are made.
+#![tactic(auto)]
+
 ghost use Rattle.std.specs.Prelude.{◌≡◌, true, ◌&&◌, ◌+◌, ◌*◌, ◌≤◌, eqb, leb, pos, Float, length, get_or};
 ghost use Rattle.ac_context.specs.Contexts.{is_power_below};
 ghost use Rattle.block.specs.Block.{block_of, covered, ideal_at};

@@ -1,4 +1,6 @@
 // Check 6 of a price book: the ready prices.
+#![tactic(auto)]
+
 ghost use Rattle.std.specs.Prelude.{◌≡◌, true, ℕ, ◌≤◌, ◌<◌, ◌+◌, ◌*◌, ◌%◌, ◌^◌, T, eqb, length};
 ghost use Rattle.std.specs.Float.Ieee.{add};
 ghost use Rattle.std.specs.Float.{binary32};

@@ -1,4 +1,6 @@
 // How the exported calls answer: a code, 0 where there is an answer, else the number of the refusal. What is answered is written to the caller's variables, and only where the code is 0.
+#![tactic(auto)]
+
 ghost use Rattle.std.specs.Prelude.{◌≡◌};
 ghost use Rattle.c_answers.specs.Told.{answer_code, cost_after, count_after, number_code, number_after, real_code, real_after, pair_code, first_after, second_after, token_code, symbol_after, extra_after, bits_after, lengths_code, length_after, restoring_after};
 

@@ -1,4 +1,6 @@
 // The leaf calls, for programs in C and in other languages that call C. `include/rdoq.h` declares them.
+#![tactic(auto)]
+
 ghost use Rattle.std.specs.Prelude.{◌≡◌};
 ghost use Rattle.token_calls.specs.Contexts.{block_context_reply, non_zero_context_reply, offset_reply, zero_density_reply};
 ghost use Rattle.level_calls.specs.Dequant.{level_reply};

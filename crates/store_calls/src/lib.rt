@@ -1,2 +1,4 @@
 // The public calls on a store of token runs.
+#![tactic(auto)]
+
 pub mod store;
