@@ -1,4 +1,6 @@
 // Runs the routine behind the ANS prices over all frequencies, against the table, and prints how many there are and how many differ.
+#![tactic(auto)]
+
 ghost use Rattle.std.specs.Prelude.{◌≤◌};
 
 use libc::STDOUT_FILENO;

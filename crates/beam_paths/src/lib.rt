@@ -1,4 +1,6 @@
 // The beam's paths: at most three, with the choices that they came by.
+#![tactic(auto)]
+
 pub mod counts;
 pub mod entry;
 pub mod kept;

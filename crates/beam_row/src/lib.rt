@@ -1,4 +1,6 @@
 // One position of the beam.
+#![tactic(auto)]
+
 mod ways;
 
 ghost use Rattle.std.specs.Prelude.{◌≡◌, List, [], ◌≤◌, pos, length, get_or};

@@ -1,4 +1,6 @@
 // Checks 1 to 6 of a price book, in document 01's order.
+#![tactic(auto)]
+
 ghost use Rattle.std.specs.Prelude.{◌≡◌, ◌≤◌, ◌*◌, max, eqb, length};
 ghost use Rattle.prices.specs.Book.{book_of, cluster_valid};
 ghost use Rattle.prices.specs.Checks.{each, symbol_price, map_below, all_priced, first_two, fill_refusal, book_refusal};

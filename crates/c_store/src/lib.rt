@@ -1,4 +1,6 @@
 // The store of token runs, for programs in C and in other languages that call C. `include/rdoq.h` declares the calls.
+#![tactic(auto)]
+
 ghost use Rattle.std.specs.Prelude.{◌≡◌};
 ghost use Rattle.store_map.specs.Store.{store_of};
 ghost use Rattle.store_calls.specs.Calls.{Put, Dropped};

@@ -1,4 +1,6 @@
 // The context sheet: reads lines of four columns from standard input and prints each with its context.
+#![tactic(auto)]
+
 ghost use Rattle.std.specs.Prelude.{◌≡◌, ◌+◌, ◌≤◌, length};
 
 use libc::{STDIN_FILENO, STDOUT_FILENO};

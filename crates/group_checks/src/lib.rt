@@ -1,4 +1,6 @@
 // What is refused of a group's list before any search: 17, 7, the channel part of 9, 29, 30, 31, each over the whole list before the next.
+#![tactic(auto)]
+
 ghost use Rattle.std.specs.Prelude.{◌≡◌, true, ◌&&◌, ◌+◌, ◌*◌, ◌/◌, ◌%◌, ◌≤◌, ◌<◌, eqb, leb, get_or, length};
 ghost use Rattle.ac_context.specs.Contexts.{is_power_below};
 ghost use Rattle.group_cells.specs.Grid.{at};

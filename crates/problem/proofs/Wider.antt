@@ -29,6 +29,8 @@ module _ (v : Window) (book : Book) (b : Block) (w w' : ℕ) (h : w ≤ w') wher
   unfolding positions_from position_at
   choice-same zero i [] done = done
   choice-same (suc n) i (c ∷ cs) (takes m k) = takes m (choice-same n (suc i) cs k)
+  choice-same zero i (c ∷ cs) x'' = elim x'' [ ]
+  choice-same (suc n) i [] x3 = elim x3 [ ]
 
   part : (i r : ℕ) → T (within (position_at w v book b i) r) → T (within (position_at w' v book b i) r)
   unfolding within position_at

@@ -70,6 +70,7 @@ choice-at w v book b (suc n) i (c ∷ cs) (takes m k) zero h = rw add-zero m
 choice-at w v book b (suc n) i (c ∷ cs) (takes m k) (suc j) h =
     let next : suc i + j ≡ i + suc j = omega arith in
     rw next at (choice-at w v book b n (suc i) cs k j (omega arith))
+choice-at w v book b (suc n) i [] k j h = elim k [ ]
 
 read_back : (b : Block) (n k : ℕ) (cs : List ℤ) → length cs ≡ n → ((j : ℕ) → j < n → input_at b (k + j) ≡ get_or cs j (pos 0)) → input_from b k n ≡ cs
 unfolding input_from
@@ -85,6 +86,8 @@ choice-length : (w : ℕ) (v : Window) (book : Book) (b : Block) (n i : ℕ) (cs
 unfolding positions_from
 choice-length w v book b zero i [] done = refl
 choice-length w v book b (suc n) i (c ∷ cs) (takes m k) = ap suc (choice-length w v book b n (suc i) cs k)
+choice-length w v book b zero i (c ∷ cs) x'' = elim x'' [ ]
+choice-length w v book b (suc n) i [] x3 = elim x3 [ ]
 
 module _ (w : ℕ) (v : Window) (book : Book) (b : Block) (P : Passed v b) (cs : List ℤ) (C : Choice (positions_from w v book b 0 v.length) cs) where
   written_at : (i : ℕ) → i < v.length → input_at (with_levels b (put b.scan cs (covered b) v.length b.levels)) (covered b + i) ≡ get_or cs i (pos 0)

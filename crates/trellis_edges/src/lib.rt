@@ -1,4 +1,6 @@
 // A row of the trellis worked out edge by edge: every candidate of every count of the next row is tried in turn, and only what is cheaper takes a state's place.
+#![tactic(auto)]
+
 ghost use Rattle.std.specs.Prelude.{◌≡◌, ℕ, ◌+◌, ◌-◌, ◌*◌, ◌<◌, ◌≤◌, length};
 ghost use Rattle.std.specs.Float.Ieee.{add};
 ghost use Rattle.std.specs.Float.{binary32};

@@ -1,2 +1,4 @@
 // One position of the trellis: the costs of its states from those of the position after it.
+#![tactic(auto)]
+
 pub mod row;

@@ -1,4 +1,6 @@
 // A row of the trellis where the position has one candidate: each count has one way on, so nothing is chosen. `fill_row` takes any position.
+#![tactic(auto)]
+
 ghost use Rattle.std.specs.Prelude.{◌≡◌, ◌∷◌, [], ℕ, ◌+◌, ◌-◌, ◌*◌, ◌<◌, ◌≤◌, T, length};
 ghost use Rattle.bias.specs.Level.{is_level};
 ghost use Rattle.candidates.specs.Candidates.{in_array};

@@ -81,16 +81,16 @@ pub overflow_add-to : goal.overflow_add-to
 overflow_add-to c = omega (arith, values-at c.before.before, values-in c.before, (start c.before.before).requires)
 
 pub run_kept-requires : goal.run_kept-requires
-run_kept-requires c = let begin = start c.before in
+run_kept-requires c = let begin = start c.before.before in
     let a = begin.args in
     let i = c.loop-i.i in
     record {
       bits_bound = omega arith;
-      l_in_bounds = omega (arith, symbols-at c.before, symbols-in c, begin.requires);
-      bits_in_bounds = omega (arith, values-at c.before, values-in c, begin.requires);
+      l_in_bounds = omega (arith, symbols-at c.before.before, symbols-in c.before, begin.requires);
+      bits_in_bounds = omega (arith, values-at c.before.before, values-in c.before, begin.requires);
       by_index = λ j h.
-          subst⁻¹ (λ (w : ℕ). symbol_price (at a.symbols.now w) ≡ true) (ap (λ (p : ℕ). a.from + p + j) (symbols-at c.before) ∙ add_assoc a.from (i * 2 ^ a.l) j)
-          (begin.requires.by_index (i * 2 ^ a.l + j) (omega (arith, symbols-in c)));
+          subst⁻¹ (λ (w : ℕ). symbol_price (at a.symbols.now w) ≡ true) (ap (λ (p : ℕ). a.from + p + j) (symbols-at c.before.before) ∙ add_assoc a.from (i * 2 ^ a.l) j)
+          (begin.requires.by_index (i * 2 ^ a.l + j) (omega (arith, symbols-in c.before)));
     }
 
 pub loop-i-preserved : goal.loop-i-preserved

@@ -110,9 +110,9 @@ power-small-requires c = omega (arith, sizes c.before, c.config_of-config.ensure
 
 pub line_kept-requires : goal.line_kept-requires
 unfolding of_bits
-line_kept-requires c = let row = (start c.before).requires in
-    let small : 2 ^ s-of c.before ≤ 2 ^ 6 = pow_mono (sizes c.before).small in
-    let size = headed c in
+line_kept-requires c = let row = (start c.before.before).requires in
+    let small : 2 ^ s-of c.before.before ≤ 2 ^ 6 = pow_mono (sizes c.before.before).small in
+    let size = headed c.before in
     record { count_bound = omega (arith, size); count_in_bounds = omega (arith, size, row.priced); count_in_bounds_2 = omega (arith, size, row.kept); by_index = λ i h. zero-sum-cost _ (row.prices i (omega (arith, size))) }
 
 pub returns-then-not-line_kept : goal.returns-then-not-line_kept
@@ -144,19 +144,19 @@ overflow_sub-n-in-loop-n c = omega (arith, sizes (first c.before.before.before))
 
 pub octave_kept-requires : goal.octave_kept-requires
 octave_kept-requires c = let loop = c.loop-n in
-    let f = first c.before.before in
+    let f = first c.before.before.before in
     let a = (start f).args in
     let row = (start f).requires in
     let n = loop.n in
-    let few : 2 ^ n ≤ 2 ^ 7 = pow_mono {j = 7} (omega (arith, below-8 c.before.before)) in
-    let same : 2 ^ n ≡ 2 ^ (m-of f + l-of f + (n - m-of f - l-of f)) = ap (λ (k : ℕ). 2 ^ k) (whole c.before.before) in
+    let few : 2 ^ n ≤ 2 ^ 7 = pow_mono {j = 7} (omega (arith, below-8 c.before.before.before)) in
+    let same : 2 ^ n ≡ 2 ^ (m-of f + l-of f + (n - m-of f - l-of f)) = ap (λ (k : ℕ). 2 ^ k) (whole c.before.before.before) in
     record {
-      bits_bound = omega (arith, whole c.before.before, below-8 c.before.before);
-      l_in_bounds = omega (arith, room c.before, loop.invariant.2, row.priced);
+      bits_bound = omega (arith, whole c.before.before.before, below-8 c.before.before.before);
+      l_in_bounds = omega (arith, room c.before.before, loop.invariant.2, row.priced);
       bits_in_bounds = omega (arith, c.power.ensures, few, same, row.kept);
       by_index = λ i h.
           subst⁻¹ (λ (w : ℕ). symbol_price (at a.symbols.now w) ≡ true) (omega (arith, loop.invariant.2))
-          (row.prices (base (s-of f) (m-of f) (l-of f) n + i) (omega (arith, room c.before)));
+          (row.prices (base (s-of f) (m-of f) (l-of f) n + i) (omega (arith, room c.before.before)));
     }
 
 pub overflow_add-m-then-octave_kept : goal.overflow_add-m-then-octave_kept
@@ -193,7 +193,7 @@ all-below c n e =
 pub turns_kept-requires : goal.turns_kept-requires
 unfolding above lt
 turns_kept-requires c = let none = c.infinity-none.ensures in
-    let row = (start (first c.before.before.before)).requires in
+    let row = (start (first c.before.before.before.before)).requires in
     record { fours_in_bounds = omega (arith, row.kept); t = rw none tt; t_2 = rw none tt }
 
 pub returns-then-end-lt8 : goal.returns-then-end-lt8
