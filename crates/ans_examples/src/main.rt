@@ -3,7 +3,8 @@
 
 ghost use Rattle.std.specs.Prelude.{◌≤◌};
 
-use libc::STDOUT_FILENO;
+// The standard output.
+const STDOUT_FILENO: i32 = 1;
 
 // The bits of 12 - log2 of a frequency, 15.0 for 0.
 fn routine(frequency: u32) -> u32

@@ -3,7 +3,9 @@ ghost use Rattle.std.specs.Prelude.{◌≡◌, ◌+◌, ◌-◌, ◌≤◌, leng
 ghost use Rattle.block_input.specs.Held.{HeldIn, Whole};
 
 use block_file::record;
-use libc::STDIN_FILENO;
+
+// The standard input.
+const STDIN_FILENO: i32 = 0;
 
 // More than the longest record takes, 1,049,669 bytes.
 pub const INPUT: usize = 1114112;
@@ -48,8 +50,7 @@ fn read_more(input: &mut [u8], end: usize) -> usize
     ensures { end + result ≤ length input.old }
 {
     let behind = &mut input[end..];
-    let got = libc::read(STDIN_FILENO, behind);
-    io::count(got, behind)
+    io::read_full(STDIN_FILENO, behind)
 }
 
 // Measures the record that the bytes from `start` to `end` begin with.

@@ -1,4 +1,6 @@
 // Filling the ready prices of a book, and symbol prices from a prefix code (document 01, module 4).
+#![tactic(auto)]
+
 ghost use Rattle.std.specs.Prelude.{◌≡◌, ◌&&◌, ℕ, ◌≤◌, ◌<◌, ◌+◌, ◌*◌, length};
 ghost use Rattle.prices.specs.Book.{book_of, cluster_valid};
 ghost use Rattle.prices.specs.Checks.{fill_refusal};

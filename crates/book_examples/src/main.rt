@@ -6,7 +6,9 @@ ghost use Rattle.std.specs.Prelude.{◌≡◌, ◌≤◌, ◌<◌, length};
 
 use answers::answer::{Real, RealPair};
 use book_calls::book::{check_book, fill_ready, prefix_symbol_bits, token_bits, token_bits_pair};
-use libc::STDOUT_FILENO;
+
+// The standard output.
+const STDOUT_FILENO: i32 = 1;
 
 // A map of every context to cluster 0. Only its length is told, which lending it needs.
 fn zero_map() -> [u8; 14850]

@@ -4,7 +4,9 @@ ghost use Rattle.std.specs.Prelude.{◌≡◌, length};
 
 use answers::answer::{Real, RealPair};
 use book_calls::{book, view};
-use libc::STDOUT_FILENO;
+
+// The standard output.
+const STDOUT_FILENO: i32 = 1;
 
 // A map of every context to cluster 0, but of context 1 to cluster 1. Only its length is told, which lending it needs.
 fn two_clusters() -> [u8; 14850]

@@ -1,4 +1,6 @@
 // Checks 1 to 4 of a call that codes tokens and prices none.
+#![tactic(auto)]
+
 ghost use Rattle.std.specs.Prelude.{◌≡◌, Bool};
 ghost use Rattle.laws.specs.Refusals.{first_refused};
 ghost use Rattle.coding.specs.Coding.{coding_of, coding_checks};

@@ -3,7 +3,9 @@
 
 ghost use Rattle.std.specs.Prelude.{◌≡◌, ◌+◌, ◌≤◌, length};
 
-use libc::{STDIN_FILENO, STDOUT_FILENO};
+// The standard input and output.
+const STDIN_FILENO: i32 = 0;
+const STDOUT_FILENO: i32 = 1;
 
 // Of a line longer than 24 bytes only 25 are kept: it is of another form, whatever they are.
 fn keep(line: &mut [u8], n: usize, byte: u8) -> usize
@@ -87,8 +89,7 @@ fn main() {
     // A proved loop has to end, and nothing says that a file does: no run uses this number up.
     let mut turns = u64::MAX;
     while turns > 0 {
-        let got = libc::read(STDIN_FILENO, &mut piece);
-        let n = io::count(got, &piece);
+        let n = io::read_full(STDIN_FILENO, &mut piece);
         if n == 0 {
             break;
         }

@@ -1,4 +1,6 @@
 // The checks of a search, in order, and where it starts once they have passed.
+#![tactic(auto)]
+
 pub mod start;
 
 ghost use Rattle.std.specs.Prelude.{◌≡◌, cond, ◌≤◌, ◌<◌};

@@ -3,7 +3,9 @@ ghost use Rattle.std.specs.Prelude.{◌≡◌, ◌+◌, ◌≤◌, length};
 
 use block::Answer;
 use block_file::line;
-use libc::STDOUT_FILENO;
+
+// The standard output.
+const STDOUT_FILENO: i32 = 1;
 
 // The length of the buffer, which `io::large_buffer` is.
 pub const OUT: usize = 65536;

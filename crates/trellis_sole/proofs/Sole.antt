@@ -62,6 +62,7 @@ module _ (g : ℤ → Float) (q : ℤ) (x z : Float) (G : T (cost (g q))) (X : T
     where
       is : (b : Bool) → T b → b ≡ true
       is true t = refl
+      is false t = elim t [ ]
 
   -- a sole 0
   zero-state : eqb (nz q) 0 ≡ true → state_cost g x z (q ∷ []) ≡ add binary32 (g q) z

@@ -58,5 +58,5 @@ loop-j-preserved c =
 pub returns : goal.returns
 returns c = let start = c.before.before.before.before.before.before.before.before.before.before.before.before in
     let inv = c.loop-j.invariant in
-    let last : c.loop-j.j ≡ start.args.t7.count = omega (arith, inv.0, c.loop-j-test.false) in
+    let last : c.loop-j.j ≡ start.args.paths.count = omega (arith, inv.0, c.loop-j-test.false) in
     record { count_bound = omega (arith, inv.0, inv.1.0, start.requires.few); kept_is = λ q xs S W. extended-all _ W last (inv.1.1 q xs S W) }

@@ -60,4 +60,4 @@ returns c = let inv = c.loop-d.invariant in
     let named = c.counts_named-counts in
     let names = named.ensures in
     let last : c.loop-d.d ≡ named.result.length = omega (arith, inv.0, c.loop-d-test.false) in
-    record { count_bound = inv.1.0; kept_is = λ q xs S W. merged-all (ways xs q.candidates) _ (names.1 xs W) (omega (arith, names.0.0, names.0.1)) last (inv.1.1.1 q xs S W) }
+    record { count_bound = inv.1.0; kept_is = λ q xs S W. merged-all (ways xs q.candidates) _ (names.result_value xs W) (omega (arith, names.length_bound.0, names.length_bound.1)) last (inv.1.1.1 q xs S W) }

@@ -10,10 +10,10 @@ use Rattle.book_checks.proofs.check_lengths.Tie
 use Rattle.book_checks.proofs.check_lengths.Goals as goal
 
 abbrev Else-clusters-gt256 : Type 0
-Else-clusters-gt256 = Lts.Else3 Tie.the-claims Reads.Pre Reads.Post Tie.handed_clauses
+Else-clusters-gt256 = Lts.Else3 Reads.Pre Reads.Post
 
 abbrev Start : Type 0
-Start = Lts.Start Tie.the-claims Reads.Pre Reads.Post Tie.handed_clauses
+Start = Lts.Start Reads.Pre Reads.Post
 
 abbrev lent : Start → Book
 lent c = book_of c.args.clusters c.args.map.now c.args.configs.now c.args.symbols.now c.args.ready.now

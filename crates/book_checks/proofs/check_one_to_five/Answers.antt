@@ -11,16 +11,16 @@ use Rattle.book_checks.proofs.check_one_to_five.Tie
 use Rattle.book_checks.proofs.check_one_to_five.Goals as goal
 
 abbrev Else-two-ne0 : Type 0
-Else-two-ne0 = Lts.Else1 Tie.the-claims Reads.Pre Reads.Post Tie.handed_clauses
+Else-two-ne0 = Lts.Else1 Tie.the-claims Reads.Pre Reads.Post
 
 abbrev Start : Type 0
-Start = Lts.Start Tie.the-claims Reads.Pre Reads.Post Tie.handed_clauses
+Start = Lts.Start Tie.the-claims Reads.Pre Reads.Post
 
 abbrev Then-map_below : Type 0
-Then-map_below = Lts.Then2 Tie.the-claims Reads.Pre Reads.Post Tie.handed_clauses
+Then-map_below = Lts.Then2 Tie.the-claims Reads.Pre Reads.Post
 
 abbrev Then-configs_valid : Type 0
-Then-configs_valid = Lts.Then3 Tie.the-claims Reads.Pre Reads.Post Tie.handed_clauses
+Then-configs_valid = Lts.Then3 Tie.the-claims Reads.Pre Reads.Post
 
 abbrev lent : Start → Book
 lent c = book_of c.args.clusters c.args.map.now c.args.configs.now c.args.symbols.now c.args.ready.now

@@ -23,4 +23,4 @@ shape_of-choices c = unpacked-size _ _ c.fill_row.ensures.elsewhere.size
 
 pub returns : goal.returns
 returns c = let whole = c.fill_row.ensures in
-    record { current_len_unchanged = whole.0; elsewhere = whole.1.0; row_is = whole.1.1 }
+    record { current_len_unchanged = whole.current_len_unchanged; elsewhere = whole.elsewhere; row_is = whole.row_is }

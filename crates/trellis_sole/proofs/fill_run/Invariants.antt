@@ -9,7 +9,7 @@ use Rattle.trellis_sole.proofs.fill_run.Given as given
 
 abbrev pub invariant-loop-r : given.invariant-loop-r
 invariant-loop-r l =
-    Ran (λ book x n. SoleReady book x l.next l.span (to_z w32 l.level) l.distortion l.token n) (to_z w32 l.level ∷ []) l.next l.span (2 * l.at) l.least l.from l.upto l.r l.initial.current l.current (unpacked l.initial.choices) (unpacked l.choices)
+    Ran (λ book x n. SoleReady book x l.next l.span l.level l.distortion l.token n) (l.level ∷ []) l.next l.span (2 * l.at) l.least l.from l.upto l.r l.initial.current l.current (unpacked l.initial.choices) (unpacked l.choices)
 
 abbrev pub decreases-loop-r : given.decreases-loop-r
 decreases-loop-r l = l.upto + 1 - l.r

@@ -9,7 +9,7 @@ use Rattle.trellis_sole.proofs.fill_sole.Given as given
 
 abbrev pub invariant-loop-r : given.invariant-loop-r
 invariant-loop-r l =
-    SoFar (book_in l.map l.configs l.symbols l.ready) l.place (to_z w32 l.level ∷ []) l.next l.span (2 * l.at) l.least l.most l.r l.initial.current l.current (unpacked l.initial.choices) (unpacked l.choices)
+    SoFar (book_in l.map l.configs l.symbols l.ready) l.place (l.level ∷ []) l.next l.span (2 * l.at) l.least l.most l.r l.initial.current l.current (unpacked l.initial.choices) (unpacked l.choices)
 
 abbrev pub decreases-loop-r : given.decreases-loop-r
 decreases-loop-r l = l.most + 1 - l.r

@@ -1,6 +1,5 @@
 use Rattle.beam_row.specs.Held.{spot_of}
 use Rattle.prices.specs.Book.{book_in}
-use mathlib.Core.Logic.{⊎_elim}
 use mathlib.Core.Path.{◌≡◌, refl, sym, ◌∙◌, ap}
 use native.Mathlib.Omega.{arith}
 use Prim.Native.Nat.{◌-◌}
@@ -13,6 +12,7 @@ use Rattle.beam_row.proofs.ways.try_levels.Lts
 use Rattle.beam_row.proofs.ways.try_levels.Reads
 use Rattle.beam_row.proofs.ways.try_levels.Tie
 use Rattle.beam_row.proofs.ways.try_levels.Goals as goal
+use Rattle.beam_row.proofs.ways.try_levels.Goals.{then-nonzero, else-nonzero}
 
 abbrev Joined-nonzero : Type 0
 Joined-nonzero = Lts.Joined1 Tie.the-claims Reads.Pre Reads.Post goal.the-invariant-loop-i goal.the-decreases-loop-i Tie.handed_clauses
@@ -36,7 +36,10 @@ joined c =
     let pre = at.requires in
     let here = c.loop-i-test.true in
     let nz = c.nonzero.ensures in
-    ⊎_elim (λ w. more-tried pre.priced.usable here nz w.0.taken (pre.context_value.0 ∙ ap (context_at _) (sym at.loop-i.invariant.1.0)) (w.3 ∙ w.2.ensures)) (λ w. more-other pre.priced.usable here nz w.0.left w.1) c.if-nonzero.branch
+    elim c.if-nonzero.branch [
+      then-nonzero w ↦ more-tried pre.priced.usable here nz w.if-nonzero.true (pre.context_value.0 ∙ ap (context_at _) (sym at.loop-i.invariant.1.0)) (w.best-is ∙ w.try_way-best.ensures)
+      | else-nonzero w ↦ more-other pre.priced.usable here nz w.if-nonzero.false w.best-is
+    ]
 
 pub loop-i-preserved : goal.loop-i-preserved
 loop-i-preserved c =

@@ -22,7 +22,7 @@ invariant-loop-j l =
     × (T (is_level l.best.level)
     × ((b : Block) → Planned b l.plan → l.place ≡ place_of b l.plan.log2 l.i
     → holder (cost_of (book_in l.map l.configs l.symbols l.ready) b l.i l.around.later l.around.others l.around.front l.around.run) l.best.cost l.best.level (drop l.j (listed (in_array l.count l.levels)))
-    ≡ holder (cost_of (book_in l.map l.configs l.symbols l.ready) b l.i l.around.later l.around.others l.around.front l.around.run) (inf false) (to_z w32 l.current) (listed (in_array l.count l.levels))))
+    ≡ holder (cost_of (book_in l.map l.configs l.symbols l.ready) b l.i l.around.later l.around.others l.around.front l.around.run) (inf false) l.current (listed (in_array l.count l.levels))))
 
 abbrev pub decreases-loop-j : given.decreases-loop-j
 decreases-loop-j l = l.count - l.j

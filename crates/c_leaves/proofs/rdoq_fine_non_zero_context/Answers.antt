@@ -1,4 +1,0 @@
-use Rattle.c_leaves.proofs.rdoq_fine_non_zero_context.Goals as goal
-
-pub returns : goal.returns
-returns c = rw c.fine_non_zero_context.ensures at c.tell_number.ensures
