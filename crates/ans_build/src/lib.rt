@@ -1,4 +1,6 @@
 // Symbol prices from the frequencies of an ANS code (ticket 2).
+#![tactic(auto)]
+
 ghost use Rattle.std.specs.Prelude.{◌≡◌, ◌≤◌, ◌*◌, true, eqb, leb, length};
 ghost use Rattle.book_build.specs.Paint.{paint};
 ghost use Rattle.ans_prices.specs.Table.{PriceTable};

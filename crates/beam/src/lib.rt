@@ -1,4 +1,6 @@
 // The beam search: at most three paths are kept from one position to the next, and the cheapest that is left is taken.
+#![tactic(auto)]
+
 mod ending;
 mod positions;
 mod search;

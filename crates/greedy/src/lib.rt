@@ -1,4 +1,6 @@
 // The greedy search: one pass over the window, from the last position to the first, that takes each position's cheapest candidate.
+#![tactic(auto)]
+
 mod pass;
 
 ghost use Rattle.std.specs.Prelude.{◌≡◌};

@@ -1,4 +1,6 @@
 // The price calls that take anything: a price, or refusal 17 (document 01, module 4).
+#![tactic(auto)]
+
 ghost use Rattle.std.specs.Prelude.{◌≡◌, true, ◌≤◌, ◌<◌, ◌+◌};
 ghost use Rattle.prices.specs.Book.{book_of};
 ghost use Rattle.prices.specs.Checks.{check1, check2};

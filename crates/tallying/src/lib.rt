@@ -1,5 +1,7 @@
 // Use of symbols in a batch: counts by cluster and symbol, and the total of extra bits, as the Rust's `AdaptiveRate::add` counts them. A block's tokens are added,
 // and taken out when the block is searched again.
+#![tactic(auto)]
+
 ghost use Rattle.std.specs.Prelude.{◌≡◌, ◌&&◌, ◌+◌, ◌*◌, ◌≤◌, min, leb, length, get_or};
 ghost use Rattle.coding.specs.Coding.{Coded, coding_of};
 ghost use Rattle.laws.specs.Refusals.{first_refused};

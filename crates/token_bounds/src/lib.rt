@@ -1,4 +1,6 @@
 // Checks 24 and 20 of the writer: whether the levels lie within ±32,768, and whether every token has a symbol.
+#![tactic(auto)]
+
 ghost use Rattle.std.specs.Prelude.{◌≡◌, true, ◌-◌, ◌≤◌, leb, eqb, pos, nat_abs, length, get_or};
 ghost use Rattle.block.specs.Block.{nonzeros_among};
 ghost use Rattle.block.specs.declared.Shape.{Shape};

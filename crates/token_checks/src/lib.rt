@@ -1,4 +1,6 @@
 // What both calls on a block's tokens check first.
+#![tactic(auto)]
+
 ghost use Rattle.std.specs.Prelude.{◌≡◌};
 ghost use Rattle.laws.specs.Refusals.{first_refused};
 ghost use Rattle.block_tokens.specs.Outcome.{given_of, shape_checks, lent_refusal};

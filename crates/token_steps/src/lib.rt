@@ -1,4 +1,6 @@
 // The steps that the writer and the reader of a block's tokens share.
+#![tactic(auto)]
+
 ghost use Rattle.std.specs.Prelude.{◌≡◌, true, cond, ◌<◌, ◌≤◌};
 ghost use Rattle.coding.specs.Coding.{Coded};
 ghost use Rattle.block_tokens.specs.Code.{code_of};

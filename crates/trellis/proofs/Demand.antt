@@ -40,6 +40,7 @@ use Rattle.trellis.proofs.Main.{refused-exactly, answers-least}
 
 is_true : (t : Bool) → T t → t ≡ true
 is_true true _ = refl
+is_true false x' = elim x' [ ]
 
 -- the levels with those of a least choice written through the scan
 abbrev least-levels : ℕ → Window → Book → Block → List ℤ

@@ -1,4 +1,6 @@
 // The count-banded trellis: a least-cost choice of levels in the band.
+#![tactic(auto)]
+
 mod search;
 mod walk;
 
