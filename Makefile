@@ -1,5 +1,5 @@
 # make test       the whole gate: layout, proofs, must-fail edits, programs; then the bindings and a short comparison, where their tools are at hand
-# make quick      for the desk, not the verdict: what changed and what stands above it is proved, and the programs run; no edits
+# make quick      for the desk, not the verdict: what changed and what stands above it is proved; no edits, no programs
 # make run        the main program on a sample; before it is proved, the same sources built without a proof
 # make prove      proves the main program and what it stands on, a line for each crate
 # make library    the static library for C and Rust, target/staticlib/librdoq_c.a
@@ -32,10 +32,6 @@ WITHOUT ?=
 MODE ?= times
 PASSES ?= 31
 
-# Crates and edits that rt tries at a time. It waits for the whole of a batch, so that two processors idle less with four; each takes up to a gigabyte.
-RT_JOBS ?= 4
-export RT_JOBS
-
 # The Rust, for comparisons: the folder that holds src/group/trellis.rs.
 JIXEL_SRC ?= $(abspath ../shared/docs/src)
 export JIXEL_SRC
@@ -44,14 +40,13 @@ export JIXEL_SRC
 
 # rt's closing line, 'N passed, 0 failed', is kept back and printed last.
 test:
-	rt fmt --check
 	@diff docs/frequency-contexts.md <(tools/frequency_sheet.sh) || { echo 'docs/frequency-contexts.md is not what tools/frequency_sheet.sh prints' >&2; exit 1; }
 	@tools/ans_table.py --check
 	@tools/refusals.py --check
 	@tools/contracts.py --check
-	@log=$$(mktemp); rt ci | tee "$$log" | awk 'NR > 1 { print last; fflush() } { last = $$0 } END { print last > "target/verdict.txt" }'; mv "$$log" target/ci.log
-	@tools/gate_times.sh target/ci.log > target/gate-times.txt || true; tail -n 1 target/gate-times.txt
-	@tools/edit_logs.sh
+	@mkdir -p target
+	@rt ci | tee target/ci.log | awk 'NR > 1 { print last; fflush() } { last = $$0 } END { print last > "target/verdict.txt" }'
+	@tools/edit_logs.sh target/ci.log
 	@$(MAKE) bindings > target/bindings.log 2>&1 || { cat target/bindings.log; exit 1; }
 	@grep '^bindings:' target/bindings.log
 	@if command -v cargo > /dev/null && [ -f "$(JIXEL_SRC)/src/group/trellis.rs" ]; then $(MAKE) compare N=100; \
@@ -59,8 +54,7 @@ test:
 	@cat target/verdict.txt
 
 quick:
-	rt fmt --check
-	@rt check
+	@rt all check
 
 run:
 	@mkdir -p target
@@ -133,7 +127,7 @@ fuzz: library
 compare: library
 	@command -v cargo > /dev/null || { echo 'make compare needs cargo, and the Rust in the folder that JIXEL_SRC names'; exit 2; }
 	@mkdir -p target
-	@rt check level_search > target/compare.log 2>&1 || { cat target/compare.log >&2; exit 1; }
+	@(cd crates/level_search && rt run < /dev/null) > target/compare.log 2>&1 || { cat target/compare.log >&2; exit 1; }
 	@cargo build --quiet --release --offline --manifest-path compare/Cargo.toml --bin compare --bin leaves --bin tokens --bin groups --bin small
 	@mkdir -p target/sample; compare/target/release/compare --sample target/sample; diff -r target/sample examples -x context-sheet.txt || { echo 'examples/blocks.bin and blocks.txt are not what compare --sample writes' >&2; exit 1; }
 	@compare/target/release/leaves
@@ -141,7 +135,7 @@ compare: library
 	@compare/target/release/tokens
 	@compare/target/release/groups
 	@compare/target/release/small
-	@compare/target/release/compare $(N) --seed $(SEED) --port target/bin/level_search $(if $(CLASSES),--classes $(CLASSES)) $(if $(WITHOUT),--without $(WITHOUT))
+	@compare/target/release/compare $(N) --seed $(SEED) --port crates/level_search/out/level_search $(if $(CLASSES),--classes $(CLASSES)) $(if $(WITHOUT),--without $(WITHOUT))
 
 # The Rust beside it where it is at hand.
 IN ?=

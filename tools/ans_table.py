@@ -42,15 +42,21 @@ def price(f):
 
 
 def code(table):
-    lines = "".join(f"    {b},\n" for b in table)
+    # as many in a line of 100 columns as there is room for: rt fmt's layout
+    rows = ["   "]
+    for b in table:
+        if len(rows[-1]) + 2 + len(str(b)) > 100:
+            rows.append("   ")
+        rows[-1] += f" {b},"
+    lines = "".join(row + "\n" for row in rows)
     return (
         "// The prices of ANS frequencies, as bit patterns. tools/ans_table.py writes this file.\n"
-        "ghost use mathlib.Core.Path.{_≡_};\n"
-        "ghost use Rattle·ans_prices.specs.Table.{PriceTable};\n\n"
+        "ghost use Rattle.std.specs.Prelude.{◌≡◌};\n"
+        "ghost use Rattle.ans_prices.specs.Table.{PriceTable};\n\n"
         f"const PRICES: [u32; {ENTRIES}] = [\n{lines}];\n\n"
         "// The table. It is laid down at each use, so that nothing else mentions it: call once, and lend it.\n"
         f"pub fn price_table() -> [u32; {ENTRIES}]\n"
-        "    ensures { λ r. ⌜ PriceTable r ⌝ }\n"
+        "    ensures { PriceTable result }\n"
         "{\n    PRICES\n}\n"
     )
 
@@ -61,7 +67,7 @@ def proof(table):
     names = [f"part{i}" for i in range(PARTS)]
     out = (
         "-- The table of ANS prices, in parts: a test over the whole in one declaration would pass antt's step limit. tools/ans_table.py writes this file.\n"
-        "use Prim.Native.Nat.{ℕ}\nuse mathlib.Core.List.{List, [], _∷_, _++_}\n\n"
+        "use Prim.Native.Nat.{ℕ}\nuse mathlib.Core.List.{List, [], ◌∷◌, ◌++◌}\n\n"
     )
     for i, name in enumerate(names):
         part = table[cuts[i] : cuts[i + 1]]

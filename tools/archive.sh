@@ -1,23 +1,25 @@
 #!/usr/bin/env bash
 # The C library: each crate that exports functions is proved and built as an archive of its own, and all are merged into
 # target/staticlib/librdoq_c.a. Nothing may be exported twice, and what the header declares is what is exported.
+# What rt said of each is kept in target/log/CRATE.say.
 set -euo pipefail
 cd "$(dirname "$0")/.."
 out=target/staticlib
 library=$out/librdoq_c.a
 # A library younger than all it is made of stands as it is.
-if [ -e "$library" ] && [ -z "$(find crates include/rdoq.h tools/archive.sh "$(command -v rt)" -newer "$library" -print -quit)" ]; then
+if [ -e "$library" ] && [ -z "$(find crates include/rdoq.h tools/archive.sh "$(command -v rt)" -name out -prune -o -newer "$library" -type f -print -quit)" ]; then
     exit 0
 fi
-mkdir -p "$out"
+mkdir -p "$out" target/log
 mapfile -t families < <(grep -l 'no_mangle' crates/*/src/*.rt | cut -d/ -f2 | sort -u)
 merge=$out/merge
 rm -rf "$merge"
 mkdir -p "$merge"
 for family in "${families[@]}"; do
-    rt staticlib "$family" > "target/staticlib.log" 2>&1 || { cat target/staticlib.log >&2; exit 1; }
+    (cd "crates/$family" && rt lib) > "target/log/$family.say" 2>&1 || { cat "target/log/$family.say" >&2; exit 1; }
     mkdir "$merge/$family"
-    (cd "$merge/$family" && ar x "../../lib$family.a")
+    archive=$PWD/crates/$family/out/lib$family.a
+    (cd "$merge/$family" && ar x "$archive")
     for object in "$merge/$family"/*; do
         mv "$object" "$merge/$family-$(basename "$object")"
     done

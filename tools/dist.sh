@@ -52,6 +52,7 @@ proof() {
     echo
     echo 'Each crate that the library is made of, with the last line of its check. A crate that rests on an axiom would say axioms=N.'
     for crate in $(tools/reached.sh "${families[@]}"); do
+        [ -e "target/log/$crate.say" ] || (cd "crates/$crate" && rt check) > "target/log/$crate.say" 2>&1
         said=$(grep '^logic=' "target/log/$crate.say" | tail -n 1 | sed 's/ target=[^ ]*//')
         [[ $said == logic=proved* ]] || { echo "dist: $crate: no check says that it is proved" >&2; exit 1; }
         printf '%-16s %s\n' "$crate" "$said"

@@ -1,18 +1,18 @@
 #!/usr/bin/env bash
-# Looks through the logs of the must-fail edits. An edit that is refused because a place or a field of the proof no longer exists
-# shows nothing: the edit changed the code's shape, not a fact. Exit status 1 where there is one.
+# Looks through what `rt ci` said of the must-fail edits. An edit that can't be applied, or that is refused because a place or a name no longer exists, shows
+# nothing: it fits the code no more, or it changed the code's shape and not a fact. Exit status 1 where there is one.
+# Usage: tools/edit_logs.sh LOG
 set -euo pipefail
-cd "$(dirname "$0")/.."
-bad=0 read=0
-for log in target/must-fail/*/*/.log; do
-    [ -f "$log" ] || continue
-    read=$((read + 1))
-    first=$(grep -m1 -E ' error: ' "$log" || true)
-    if grep -qE 'has no `[^`]*` that can be named from here|has no field' <<< "$first"; then
-        bad=$((bad + 1))
-        name=${log#target/must-fail/}
-        echo "edit_logs: ${name%/.log} is refused for its shape: ${first##* error: }" | cut -c1-240
-    fi
-done
-echo "edit_logs: $read edits, $bad refused for their shape"
-[ "$read" -gt 0 ] && [ "$bad" -eq 0 ]
+log=$1
+bad=$(grep -cE '^rt: must-fail [^ ]+: (BAD EDIT|NOT REFUSED|NOT TRIED)' "$log" || true)
+grep -E '^rt: must-fail [^ ]+: (BAD EDIT|NOT REFUSED|NOT TRIED)' "$log" | cut -c1-240 || true
+read=$(grep -cE '^rt: must-fail [^ ]+: refused' "$log" || true)
+shape=$(grep -E '^rt: must-fail [^ ]+: refused' "$log" | grep -E 'that can be named from here|has no field|is not in scope' || true)
+[ -z "$shape" ] || { echo 'edit_logs: refused for their shape:'; cut -c1-240 <<< "$shape"; }
+# the sum that rt gives, over what this run tried and what earlier ones did
+if grep -qE '^rt: ok.*, [1-9][0-9]* bad' "$log"; then
+    grep -E '^rt: ok' "$log"
+    bad=$((bad + 1))
+fi
+echo "edit_logs: $read edits tried in this run, $bad faults, $([ -z "$shape" ] && echo 0 || wc -l <<< "$shape") refused for their shape"
+[ "$bad" -eq 0 ] && [ -z "$shape" ]

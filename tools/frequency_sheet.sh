@@ -14,10 +14,10 @@ By rule the context is i − 1 below 16, 7 + i/2 from 16 to 31 and 15 + i/4 from
 | i | Context | By |
 |---|---|---|
 HEAD
-awk '/^coeffFreqContext = / {
+awk '/^coeff_freq_context = / {
     gsub(/[^0-9]+/, " ")
     n = split($0, entry)
-    if (n != 64) { print "coeffFreqContext has " n " entries, not 64" > "/dev/stderr"; exit 1 }
+    if (n != 64) { print "coeff_freq_context has " n " entries, not 64" > "/dev/stderr"; exit 1 }
     for (i = 1; i < 64; i++) print "| " i " | " entry[i + 1] " | " (i < 16 ? "i − 1" : i < 32 ? "7 + i/2" : "15 + i/4") " |"
     found = 1
 }

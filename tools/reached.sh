@@ -4,5 +4,5 @@
 set -euo pipefail
 awk -F': *' -v names="$*" '
     function reach(name, list, n, i) { if (name in seen || !(name in deps)) return; seen[name] = 1; n = split(deps[name], list, " "); for (i = 1; i <= n; i++) reach(list[i]) }
-    !/^#/ && NF { deps[$1] = $2; order[++count] = $1 }
+    !/^#/ && NF { sub(/ .*/, "", $1); deps[$1] = $2; order[++count] = $1 }
     END { n = split(names, named, " "); for (i = 1; i <= n; i++) reach(named[i]); for (i = 1; i <= count; i++) if (order[i] in seen) print order[i] }' crates.txt

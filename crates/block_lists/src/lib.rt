@@ -1,4 +1,6 @@
 // A record's lists, copied to where the searches take them from, and the lengths of the rooms that it asks for.
+#![tactic(auto)]
+
 pub mod room;
 
 ghost use Rattle.std.specs.Prelude.{◌≡◌, ◌≤◌, length};

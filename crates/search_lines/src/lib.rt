@@ -1,4 +1,6 @@
 // Lines, gathered and written when the buffer is full.
+#![tactic(auto)]
+
 ghost use Rattle.std.specs.Prelude.{◌≡◌, ◌+◌, ◌≤◌, length};
 
 use block::Answer;

@@ -212,3 +212,9 @@ put_on scan qs from k old now after v l e a ev =
     let on : k + 1 - from ≡ k - from + 1 = omega arith in
     let at : from + (k - from) ≡ k = omega arith in
     a ∙ rw (on, put-more scan qs from (k - from) old, at, e, ev)
+
+-- what is known at scan position k, with i pairs read
+pub record At (x : Code) (h : Shape) (scan symbols bits : List ℕ) (old : List ℤ) (qs levels : List ℤ) (k prev owed i : ℕ) : Type 0 where
+  pub alike : length symbols ≡ length bits
+  pub rest : Restores x h symbols bits qs k prev owed i
+  pub put_there : levels ≡ put scan qs (covered_by h) (k - covered_by h) old

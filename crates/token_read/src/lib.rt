@@ -1,4 +1,6 @@
 // The reader of a block's tokens, once what it is lent has passed. No level changes before everything has passed.
+#![tactic(auto)]
+
 ghost use Rattle.std.specs.Prelude.{◌≡◌, true, cond, [], ◌+◌, ◌-◌, ◌≤◌, length, get_or};
 ghost use Rattle.ac_context.specs.Contexts.{zero_density_context};
 ghost use Rattle.block.specs.declared.Shape.{Shape};

@@ -1,4 +1,6 @@
 // The writer of a block's tokens, once what it is lent has passed. Nothing is written before everything has passed.
+#![tactic(auto)]
+
 ghost use Rattle.std.specs.Prelude.{◌≡◌, true, ◌&&◌, ◌-◌, ◌≤◌, leb, length};
 ghost use Rattle.block.specs.Block.{nonzeros_among};
 ghost use Rattle.block.specs.declared.Shape.{Shape};

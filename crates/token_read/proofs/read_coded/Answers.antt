@@ -1,9 +1,7 @@
--- `read_coded` meets its contract. Assumes nothing.
 use Prim.Native.Nat.{ℕ, ◌+◌, ◌-◌, ◌*◌, ◌≤◌}
 use mathlib.Core.Path.{◌≡◌, sym, ap, ap₂, ◌∙◌}
 use mathlib.Core.List.{List, []}
 use native.Mathlib.Omega.{arith}
-use borrow.Author.Rules.{rules}
 use lib.IntN.{ℤ}
 use lib.ListN.{length, length-map}
 use Rattle.block.specs.declared.Shape.{Shape}
@@ -23,8 +21,22 @@ use Rattle.token_steps.specs.Steps.{LaidOut}
 use Rattle.token_read.specs.Passes.{Accepted, Restored}
 use Rattle.token_read.proofs.Restoring.{put-zeros}
 use Rattle.token_read.proofs.Told.{accepted, refusal}
-use Rattle.token_read.proofs.read_coded.Statement.{statement}
-use Rattle.token_read.proofs.read_coded.Tie as tie
+use Rattle.token_read.proofs.read_coded.Lts
+use Rattle.token_read.proofs.read_coded.Reads
+use Rattle.token_read.proofs.read_coded.Tie
+use Rattle.token_read.proofs.read_coded.Goals as goal
+
+abbrev After-layout_of-layout : Type 0
+After-layout_of-layout = Lts.After-layout_of Tie.the-claims Reads.Pre Reads.Post Tie.handed_clauses
+
+abbrev After-restore-from : Type 0
+After-restore-from = Lts.After-restore Tie.the-claims Reads.Pre Reads.Post Tie.handed_clauses
+
+abbrev Else-refusal-ne0 : Type 0
+Else-refusal-ne0 = Lts.Else1 Tie.the-claims Reads.Pre Reads.Post Tie.handed_clauses
+
+abbrev Start : Type 0
+Start = Lts.Start Tie.the-claims Reads.Pre Reads.Post Tie.handed_clauses
 
 -- ---- the results
 
@@ -49,7 +61,7 @@ cleared {x} {symbols} {bits} {k} {now} h scan qs levels scanned d read =
     ∙ ap (λ (m : ℕ). put scan qs c m levels) all
 
 -- what is lent
-module _ (c : tie.Start) where
+module _ (c : Start) where
   abbrev x : Code
   x = code_of c.args.map.now c.args.configs.now
 
@@ -57,98 +69,78 @@ module _ (c : tie.Start) where
   shape = c.args.shape
 
   abbrev scanned : Scanned shape c.args.scan.now c.args.levels.now
-  scanned = c.requires.1.1
+  scanned = c.requires.shaped.1
 
   abbrev reading : Reading
   reading = read_tokens x shape c.args.symbols.now c.args.bits.now
 
-layout-of-requires : tie.Need-layout-of-requires
-layout-of-requires c κs = search rules
-
 -- with the layout
-module _ (c : tie.After-layout-of) where
-  abbrev start : tie.Start
+module _ (c : After-layout_of-layout) where
+  abbrev start : Start
   start = c.before.before.before.before.before.before
 
-  abbrev laid : LaidOut (shape start) c.layout_of.result
-  laid = c.layout_of.ensures
+  abbrev laid : LaidOut (shape start) c.layout_of-layout.result
+  laid = c.layout_of-layout.ensures
 
-read-refusal-requires : tie.Need-read-refusal-requires
-read-refusal-requires c κs = ((start c).requires.0, record { shape = shape (start c); laid = laid c })
+pub read_refusal-refusal-requires : goal.read_refusal-refusal-requires
+read_refusal-refusal-requires c = ((start c.before).requires.coded, record { shape = shape (start c.before); laid = laid c.before })
 
-returns : tie.Need-returns
-returns c =
-    let l = c.before.before in
+pub returns-then-refusal-ne0 : goal.returns-then-refusal-ne0
+returns-then-refusal-ne0 c =
+    let l = c.before.before.before in
     let s = start l in
-    refused-is (shape s) _ _ _ (reading s) _ (refusal (reading s) _ (c.before.read-refusal.ensures (shape s) (laid l)) c.if1.true).is
+    refused-is (shape s) _ _ _ (reading s) _ (refusal (reading s) _ (c.read_refusal-refusal.ensures (shape s) (laid l)) c.if-refusal-ne0.true).is
 
 -- once nothing is refused
-module _ (c : tie.Else1) where
-  abbrev laid_out : tie.After-layout-of
+module _ (c : Else-refusal-ne0) where
+  abbrev laid_out : After-layout_of-layout
   laid_out = c.before.before
 
-  abbrev begin : tie.Start
+  abbrev begin : Start
   begin = start laid_out
 
   ok : Accepted (x begin) (shape begin) begin.args.symbols.now begin.args.bits.now
-  ok = accepted _ _ _ _ (sym c.if1.false ∙ c.before.read-refusal.ensures (shape begin) (laid laid_out))
+  ok = accepted _ _ _ _ (sym c.if-refusal-ne0.false ∙ c.read_refusal-refusal.ensures (shape begin) (laid laid_out))
 
   -- as many pairs as the block has tokens
   pairs-few : length begin.args.symbols.now ≤ 64513
   pairs-few =
-      let k = begin.pre.0 in
-      let most = covered-most begin.pre.1.0 in
+      let k = begin.requires.coded in
+      let most = covered-most begin.requires.shaped.0 in
       let r = read-writes (codes-within k.codes) (shape begin) most begin.args.symbols.now begin.args.bits.now ok.levels ok.read in
       let number : length begin.args.symbols.now ≡ length (block_tokens (shape begin) ok.levels) = sym (ap length r.same-symbols) ∙ length-map (block_tokens (shape begin) ok.levels) (symbol_in (x begin)) in
       omega (arith, tokens-most (shape begin) ok.levels r.writable.long)
 
-restore-requires : tie.Need-restore-requires
-restore-requires c κs =
-    let e = c.before in
+pub restore-from-requires : goal.restore-from-requires
+restore-from-requires c = let e = c.before.before in
     let l = laid_out e in
     let s = begin e in
-    ((s.pre.0, record { shape = shape s; laid = laid l; scanned = scanned s }), λ h other. accepted _ h _ _ (sym e.if1.false ∙ e.before.read-refusal.ensures h other))
+    record { coded = (s.requires.coded, record { shape = shape s; laid = laid l; scanned = scanned s }); accepted = λ h other. accepted _ h _ _ (sym e.if-refusal-ne0.false ∙ e.read_refusal-refusal.ensures h other) }
 
 -- once the levels with tokens stand there
-module _ (c : tie.After-restore) where
-  abbrev checked : tie.Else1
+module _ (c : After-restore-from) where
+  abbrev checked : Else-refusal-ne0
   checked = c.before.before
 
-  restored : Restored (x (begin checked)) (shape (begin checked)) (begin checked).args.scan.now (begin checked).args.symbols.now (begin checked).args.bits.now (begin checked).args.levels.now c.restore.result c.restore.new.1.1.1.1.1.1.0
-  restored = c.restore.ensures (shape (begin checked)) (laid (laid_out checked))
+  restored : Restored (x (begin checked)) (shape (begin checked)) (begin checked).args.scan.now (begin checked).args.symbols.now (begin checked).args.bits.now (begin checked).args.levels.now c.restore-from.result c.restore-from.new.levels
+  restored = c.restore-from.ensures (shape (begin checked)) (laid (laid_out checked))
 
-clear-from-requires : tie.Need-clear-from-requires
-clear-from-requires c κs =
-    let r = c.before.before in
+pub clear_from-requires : goal.clear_from-requires
+clear_from-requires c =
+    let r = c.before.before.before in
     let s = begin (checked r) in
-    let long : length c.before.before.restore.new.1.1.1.1.1.1.0 ≡ 64 * covered_by (shape s) =
+    let long : length c.restore-from.new.levels ≡ 64 * covered_by (shape s) =
     ap length ((restored r).put_there (ok (checked r)).levels (ok (checked r)).read) ∙ put-length _ _ _ _ _ ∙ (scanned s).long
     in
     rw long (scanned s).order
 
-cast-t18 : tie.Need-overflow-cast-t18
-cast-t18 c = let e = checked c.before.before.before.before in record { fits = omega (arith, pairs-few e) }
+pub overflow_cast-result : goal.overflow_cast-result
+overflow_cast-result c = let e = checked c.before.before.before.before.before in record { fits = omega (arith, pairs-few e) }
 
-same_length : tie.Need-same-length
-same_length c = search rules
-
-returns-2 : tie.Need-returns-2
-returns-2 c =
-    let r = c.before.before.before.before in
+pub returns : goal.returns
+returns c =
+    let r = c.before.before.before.before.before in
     let e = checked r in
     let s = begin e in
     let a = cleared (shape s) s.args.scan.now (ok e).levels s.args.levels.now (scanned s) (restored r) (ok e).read in
-    read_is (shape s) s.args.scan.now _ s.args.levels.now _ (reading s) (ok e).levels (ok e).read (c.before.clear-from.ensures ∙ a)
-
-pub read-coded-spec : {M : Type 1} → statement M
-read-coded-spec =
-    tie.close
-    (tie.spec
-    layout-of-requires
-    read-refusal-requires
-    returns
-    restore-requires
-    clear-from-requires
-    cast-t18
-    same_length
-    returns-2)
+    read_is (shape s) s.args.scan.now _ s.args.levels.now _ (reading s) (ok e).levels (ok e).read (c.clear_from.ensures ∙ a)
