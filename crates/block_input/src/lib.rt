@@ -1,4 +1,6 @@
 // The bytes of standard input, record by record.
+#![tactic(auto)]
+
 ghost use Rattle.std.specs.Prelude.{◌≡◌, ◌+◌, ◌-◌, ◌≤◌, length};
 ghost use Rattle.block_input.specs.Held.{HeldIn, Whole};
 

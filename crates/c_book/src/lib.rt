@@ -1,4 +1,6 @@
 // The price book, for programs in C and in other languages that call C. `include/rdoq.h` declares its calls.
+#![tactic(auto)]
+
 ghost use Rattle.std.specs.Prelude.{◌≡◌};
 ghost use Rattle.prices.specs.Book.{book_of};
 ghost use Rattle.prices.specs.Checks.{book_refusal, fill_refusal};

@@ -1,4 +1,5 @@
 // The cost of a block's levels as they stand, for programs in C and in other languages that call C. `include/rdoq.h` declares its call.
+#![tactic(auto)]
 
 ghost use Rattle.block.specs.Block.{block_of};
 ghost use Rattle.prices.specs.Book.{book_of};

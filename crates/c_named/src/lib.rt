@@ -1,4 +1,6 @@
 // A search by its number, for the exported calls that search and for the program.
+#![tactic(auto)]
+
 ghost use Rattle.std.specs.Prelude.{◌≡◌};
 ghost use Rattle.c_named.specs.Named.{search_named};
 

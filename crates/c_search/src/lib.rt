@@ -1,4 +1,6 @@
 // The searches, for programs in C and in other languages that call C. `include/rdoq.h` declares their call.
+#![tactic(auto)]
+
 pub mod candidate_list;
 
 ghost use Rattle.block.specs.Block.{block_of};

@@ -1,4 +1,5 @@
 // The small product, for programs in C and in other languages that call C. `include/rdoq.h` declares its call.
+#![tactic(auto)]
 
 ghost use Rattle.block.specs.Block.{block_of};
 ghost use Rattle.block.specs.Outcome.{lent_of};

@@ -1,4 +1,6 @@
 // The tally, for programs in C and in other languages that call C. `include/rdoq.h` declares its calls.
+#![tactic(auto)]
+
 ghost use Rattle.std.specs.Prelude.{◌≡◌};
 ghost use Rattle.coding.specs.Coding.{coding_of};
 ghost use Rattle.tallying.specs.Uses.{tokens_of};

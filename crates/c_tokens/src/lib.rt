@@ -1,4 +1,6 @@
 // The tokens of a block, out and back, for programs in C and in other languages that call C. `include/rdoq.h` declares the calls.
+#![tactic(auto)]
+
 ghost use Rattle.std.specs.Prelude.{◌≡◌};
 ghost use Rattle.block_tokens.specs.Outcome.{given_of};
 ghost use Rattle.block_tokens.specs.Promise.{Write, Read};

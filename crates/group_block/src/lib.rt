@@ -1,4 +1,6 @@
 // One block of a group's list: read from the list, searched where its numbers lie, and its count written into its cells.
+#![tactic(auto)]
+
 pub mod answer;
 
 ghost use Rattle.std.specs.Prelude.{◌≡◌, List, ℕ, ◌+◌, ◌*◌, ◌≤◌, ◌<◌, min, Float, length, get_or};

@@ -1,4 +1,6 @@
 // A whole group in order: every block of a list searched with the count predicted from the blocks before it.
+#![tactic(auto)]
+
 ghost use Rattle.std.specs.Prelude.{◌≡◌, ◌&&◌, [], ◌-◌, ◌≤◌, leb};
 ghost use Rattle.block.specs.Outcome.{lent_of};
 ghost use Rattle.group_cells.specs.Grid.{Grid};

@@ -1,4 +1,6 @@
 // What a block's levels cost as they stand, by the definition of the searches' costs. A search's cost taken from it is what the search saved.
+#![tactic(auto)]
+
 mod sum;
 
 ghost use Rattle.std.specs.Prelude.{◌≡◌};

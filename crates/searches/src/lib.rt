@@ -1,4 +1,6 @@
 // One call over the searches.
+#![tactic(auto)]
+
 ghost use Rattle.std.specs.Prelude.{◌≡◌, ◌≤◌, ◌<◌};
 ghost use Rattle.block.specs.Block.{block_of, covered};
 ghost use Rattle.block.specs.Checks.{choice_bytes, states};

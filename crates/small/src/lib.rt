@@ -1,5 +1,7 @@
 // The small product: the searches for blocks of one or two covered blocks, over a window of 32 positions and so in little room. It stands on the contract of
 // `searches::rdoq_block_in` and on nothing else of the first product.
+#![tactic(auto)]
+
 ghost use Rattle.std.specs.Prelude.{◌≡◌, ◌*◌, leb};
 ghost use Rattle.block.specs.Block.{block_of};
 ghost use Rattle.block.specs.Outcome.{lent_of, result_of};

@@ -4,6 +4,8 @@
 //
 // A call answers 0, or the number of its refusal: 1 to 4 of the code (128 counts a cluster belong to 2), 17 where the lists differ in length, a context is above
 // 14,849 or a value above 131,071, then 27 or 28. A refused call leaves the tally as it was.
+#![tactic(auto)]
+
 ghost use Rattle.std.specs.Prelude.{◌≡◌};
 ghost use Rattle.coding.specs.Coding.{coding_of};
 ghost use Rattle.tallying.specs.Uses.{tokens_of};

@@ -1,0 +1,5 @@
+use Rattle.book_calls.proofs.NoWord.{pair-priced-as}
+use Rattle.book_calls.proofs.book.token_bits_pair.Goals as goal
+
+pub returns : goal.returns
+returns c = pair-priced-as _ _ _ _ c.token_bits_pair.ensures
