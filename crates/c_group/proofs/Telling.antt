@@ -24,6 +24,6 @@ module _ (search : ℕ) (book : Book) (words : List ℕ) (reals : List Float) (g
   unfolding group_reply told
   told-group few {answer} {after} P e f =
       record {
-        reply = rw (le-leb search 3 few, e, f) (ap₂ (λ (x : Group) (l : Lent). reply_of (code_of x) (settled_in x) l) P.answer_is P.Lent-is);
+        reply = rw (le-leb search 3 few, e, f) (ap₂ (λ (x : Group) (l : Lent). reply_of (code_of x) (settled_in x) l) P.answer_is P.lent_is);
         means = λ k. subst (λ (x : Group). Demand.Promised (search_named search) book words reals g room x after) P.answer_is P;
       }

@@ -44,4 +44,4 @@ module _ (s : Search) (book : Book) (words : List ℕ) (reals : List Float) (g :
     ran none {answer} {after} Q =
         let R = subst⁻¹ (λ (k : Book). Ran s k words reals g room answer after) (by-lists book ok) Q in
         let o = runs s book words reals g room (by-list book words reals ok ∙ none) in
-        promised s book words reals g room (sym R.answer_is ∙ sym (ap (λ (r : Run). r.answer) o)) (sym R.Lent-is ∙ sym (ap (λ (r : Run). r.lent) o))
+        promised s book words reals g room (sym R.answer_is ∙ sym (ap (λ (r : Run). r.answer) o)) (sym R.lent_is ∙ sym (ap (λ (r : Run). r.lent) o))

@@ -115,3 +115,10 @@ module _ (s : Search) (book : Book) (words : List ℕ) (reals : List Float) (g :
                 in-inverses = inside.1.1.0;
               })
               yes' (S.wrote L.done L.grid yes')
+
+-- the buffers as records
+abbrev pub numbers : List ℕ → List Float → List Float → List ℤ → Numbers
+numbers scans sources inverses levels = record { scans = scans; sources = sources; inverses = inverses; levels = levels }
+
+abbrev pub room : List ℕ → List Float → List Float → Room
+room choices row_a row_b = record { choices = choices; row_a = row_a; row_b = row_b }

@@ -16,7 +16,7 @@ returns c =
     let naming = called.before.before.before.before.before in
     let searched = rw naming.named.ensures at called.rdoq_block-answer.ensures in
     record {
-      reply = rw (le-leb _ 3 naming.if-search-gt3.false) (told-block _ _ searched.outcome c.tell_answer.ensures);
+      reply = rw (le-leb _ 3 naming.if-search-gt3.false) (told-block _ _ searched.outcome (c.tell_answer.ensures.value, (c.tell_answer.ensures.cost_after, c.tell_answer.ensures.count_after)));
       demanded = λ few. told-demanded _ _ _ _ _ _ searched.outcome searched.demanded;
       keeps = told-keeps _ _ _ c.tell_answer.ensures.value searched.keeps;
     }

@@ -7,15 +7,9 @@ use lib.IntN.{ℤ}
 use Rattle.group_list.specs.Heads.{head_at, blocks_in, covered}
 use Rattle.group_run.specs.Block.{Numbers, Room}
 use Rattle.prices.specs.Book.{book_in}
-use Rattle.group_calls.proofs.Looping.{here-placed, here-floats, few, looping-none, looping-all, looping-short, inside, looping-stops, looping-more}
+use Rattle.group_calls.proofs.Looping.{here-placed, here-floats, few, looping-none, looping-all, looping-short, inside, looping-stops, looping-more, numbers, room}
 use borrow.Author.Rules.{rules}
 use Rattle.group_calls.proofs.run_list.Goals as goal
-
-abbrev numbers : List ℕ → List Float → List Float → List ℤ → Numbers
-numbers scans sources inverses levels = record { scans = scans; sources = sources; inverses = inverses; levels = levels }
-
-abbrev room : List ℕ → List Float → List Float → Room
-room choices row_a row_b = record { choices = choices; row_a = row_a; row_b = row_b }
 
 pub loop-i-init : goal.loop-i-init
 loop-i-init c = (refl, (looping-none _ _ _ _ _ _ c.requires.reals_value.1, (refl, (refl, (refl, (refl, refl))))))

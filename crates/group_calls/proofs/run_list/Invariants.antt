@@ -3,7 +3,7 @@ use Prim.Native.Nat.{◌-◌}
 use lib.ListN.{length}
 use Rattle.group_list.specs.Heads.{blocks_in}
 use Rattle.prices.specs.Book.{book_in}
-use Rattle.group_calls.proofs.Looping.{Looping}
+use Rattle.group_calls.proofs.Looping.{Looping, numbers, room}
 use Rattle.group_calls.proofs.run_list.Given as given
 
 abbrev pub invariant-loop-i : given.invariant-loop-i

@@ -27,11 +27,11 @@ bounds-levels-4 c = fifth c.args.levels.now c.rdoq_candidates-found.result.level
 pub returns-then-code-eq0 : goal.returns-then-code-eq0
 returns-then-code-eq0 c = let whole = candidates-written _ _ _ c.rdoq_candidates-found.result _ _ _ _
     (c.rdoq_candidates-found.ensures ∙ ap (λ (z : ℤ). candidates_reply c.args.ideal z c.args.restore) (to_z-of_z w32 _ c.ranges.current))
-    c.if-levels-ne5.false c.tell_number-code.ensures c.if-code-eq0.true in
+    c.if-levels-ne5.false (c.tell_number-code.ensures.value, c.tell_number-code.ensures.out_after) c.if-code-eq0.true in
     record { value = whole.0; levels_after = whole.1.0; count_after = whole.1.1 }
 
 pub returns-else-code-eq0 : goal.returns-else-code-eq0
 returns-else-code-eq0 c = let whole = candidates-kept _ _ _ c.rdoq_candidates-found.result _ _ _ _
     (c.rdoq_candidates-found.ensures ∙ ap (λ (z : ℤ). candidates_reply c.args.ideal z c.args.restore) (to_z-of_z w32 _ c.ranges.current))
-    c.if-levels-ne5.false c.tell_number-code.ensures c.if-code-eq0.false in
+    c.if-levels-ne5.false (c.tell_number-code.ensures.value, c.tell_number-code.ensures.out_after) c.if-code-eq0.false in
     record { value = whole.0; levels_after = whole.1.0; count_after = whole.1.1 }
