@@ -1,4 +1,6 @@
 // A block's record through the searches, one after the other, each on the levels as read.
+#![tactic(auto)]
+
 ghost use Rattle.std.specs.Prelude.{◌≡◌, ◌≤◌, length};
 ghost use Rattle.block.specs.Block.{block_of};
 ghost use Rattle.block.specs.Outcome.{lent_of, result_of};

@@ -1,5 +1,7 @@
 // Document 01's examples of a price book that are not starred, and more of its checks, through the public calls. Prints a line for each: what was asked, and
 // the answer. Prices are printed as the eight hexadecimal digits of their bits. Then values priced through a view, see `views`.
+#![tactic(auto)]
+
 mod views;
 
 ghost use Rattle.std.specs.Prelude.{◌≡◌, ◌≤◌, ◌<◌, length};

@@ -1,4 +1,6 @@
 // A whole group in order, for programs in C and in other languages that call C. `include/rdoq.h` declares its call.
+#![tactic(auto)]
+
 ghost use Rattle.std.specs.Prelude.{◌≡◌};
 ghost use Rattle.block.specs.Outcome.{lent_of};
 ghost use Rattle.group_run.specs.Demand.{settled_in};

@@ -1,6 +1,8 @@
 // Reads a block file on standard input. For each block prints a line for each search: what it answers and which levels it changes.
 // A record that is cut short, has an unknown tag or asks for more than the program holds (see `block_file::record`) ends the run with a line that names its
 // first byte. A byte other than 0 says the high quant class.
+#![tactic(auto)]
+
 ghost use Rattle.std.specs.Prelude.{◌≡◌, ◌≤◌, length};
 ghost use Rattle.block_input.specs.Held.{Whole};
 ghost use Rattle.level_search.specs.State.{Sound};
