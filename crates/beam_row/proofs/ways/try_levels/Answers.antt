@@ -37,7 +37,7 @@ joined c =
     let here = c.loop-i-test.true in
     let nz = c.nonzero.ensures in
     elim c.if-nonzero.branch [
-      then-nonzero w ↦ more-tried pre.priced.usable here nz w.if-nonzero.true (pre.context_value.0 ∙ ap (context_at _) (sym at.loop-i.invariant.1.0)) (w.best-is ∙ w.try_way-best.ensures)
+      | then-nonzero w ↦ more-tried pre.priced.usable here nz w.if-nonzero.true (pre.context_value.0 ∙ ap (context_at _) (sym at.loop-i.invariant.1.0)) (w.best-is ∙ w.try_way-best.ensures)
       | else-nonzero w ↦ more-other pre.priced.usable here nz w.if-nonzero.false w.best-is
     ]
 
