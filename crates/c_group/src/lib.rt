@@ -50,9 +50,9 @@ pub extern "C" fn rdoq_group(
     settled: &mut u32,
 ) -> u32
     ensures { Promised search (book_of clusters map.now configs.now symbols.now ready.now) blocks.now settings.now
-        (record { scans = scans.entry.now; sources = sources.now; inverses = inv_qms.now; levels = levels.old })
-        (record { choices = choices.entry.now; row_a = row_a.old; row_b = row_b.old })
-        (reply_of result settled.new (lent_of levels.new choices.exit.now row_a.new row_b.new)) }
+        (record { scans = scans.now; sources = sources.now; inverses = inv_qms.now; levels = levels.old })
+        (record { choices = choices.old; row_a = row_a.old; row_b = row_b.old })
+        (reply_of result settled.new (lent_of levels.new choices.new row_a.new row_b.new)) }
 {
     if search > 3 {
         *settled = 0;

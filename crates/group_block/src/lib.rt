@@ -210,9 +210,9 @@ pub fn settle_block(
     requires n_in_bounds { (at + n ≤ length scans.now) × ((at + n ≤ length sources.now) × ((at + n ≤ length inv_qms.now) × (at + n ≤ length levels.old))) }
     ensures { Stepped search (book_in map.now configs.now symbols.now ready.now)
         (head_at words.now reals.now i)
-        (record { scans = scans.entry.now; sources = sources.now; inverses = inv_qms.now; levels = levels.old }) at levels.old
-        (record { choices = choices.entry.now; row_a = row_a.old; row_b = row_b.old }) cells.old
-        (result_of result levels.new choices.exit.now row_a.new row_b.new) cells.new }
+        (record { scans = scans.now; sources = sources.now; inverses = inv_qms.now; levels = levels.old }) at levels.old
+        (record { choices = choices.old; row_a = row_a.old; row_b = row_b.old }) cells.old
+        (result_of result levels.new choices.new row_a.new row_b.new) cells.new }
 {
     let predicted = group_counts::predicted_at(cells, words, i);
     let answer = search_at(

@@ -51,9 +51,9 @@ fn run_list(
     requires ready_value { book_refusal (book_in map.now configs.now symbols.now ready.now) ≡ 0 }
     requires reals_value { (list_refusal words.now reals.now ≡ 0) × Grid [] cells.old }
     ensures { Ran search (book_in map.now configs.now symbols.now ready.now) words.now reals.now
-        (record { scans = scans.entry.now; sources = sources.now; inverses = inv_qms.now; levels = levels.old })
-        (record { choices = choices.entry.now; row_a = row_a.old; row_b = row_b.old })
-        result (lent_of levels.new choices.exit.now row_a.new row_b.new) }
+        (record { scans = scans.now; sources = sources.now; inverses = inv_qms.now; levels = levels.old })
+        (record { choices = choices.old; row_a = row_a.old; row_b = row_b.old })
+        result (lent_of levels.new choices.new row_a.new row_b.new) }
 {
     let blocks = words.len() / 8;
     let mut i: usize = 0;
@@ -109,9 +109,9 @@ pub fn rdoq_group(
     row_b: &mut [f32],
 ) -> Group
     ensures { Promised search (book_of clusters map.now configs.now symbols.now ready.now) blocks.now settings.now
-        (record { scans = scans.entry.now; sources = sources.now; inverses = inv_qms.now; levels = levels.old })
-        (record { choices = choices.entry.now; row_a = row_a.old; row_b = row_b.old })
-        result (lent_of levels.new choices.exit.now row_a.new row_b.new) }
+        (record { scans = scans.now; sources = sources.now; inverses = inv_qms.now; levels = levels.old })
+        (record { choices = choices.old; row_a = row_a.old; row_b = row_b.old })
+        result (lent_of levels.new choices.new row_a.new row_b.new) }
 {
     let book = book_checks::check_book(clusters, map, configs, symbols, ready);
     if book != 0 {
