@@ -9,7 +9,11 @@ number() { awk -v name="RDOQ_VERSION_$1" '$2 == name { print $3 }' include/rdoq.
 series=$(number MAJOR).$(number MINOR)
 version=$series.$(number PATCH)
 name=rdoq-$version-x86_64-linux
-stage=target/dist/$name
+# Staged outside the checkout: the staged library has links, and rt ci takes none below the repository.
+room=$(mktemp -d)
+trap 'rm -rf "$room"' EXIT
+stage=$room/$name
+packed=target/dist/$name.tar.gz
 archive=target/staticlib/librdoq_c.a
 
 shared() {
@@ -24,7 +28,6 @@ shared() {
 filled() { sed -e "s/@VERSION@/$version/g" -e "s/@SERIES@/$series/g" "packaging/$1" > "$2/$1"; }
 
 stage_files() {
-    rm -rf "$stage"
     mkdir -p "$stage"/{include,lib/pkgconfig,lib/cmake/rdoq,bindings/rust,examples}
     cp include/rdoq.h include/rdoq_easy.h "$stage/include/"
     cp "$archive" "$stage/lib/"
@@ -70,8 +73,8 @@ pack() {
     time=$(git log -1 --format=%ct)
     find "$stage" -type d -exec chmod 755 {} +
     find "$stage" -type f -exec chmod 644 {} +
-    tar --sort=name --mtime="@$time" --owner=0 --group=0 --numeric-owner --format=gnu -C target/dist -cf - "$name" | gzip -n -9 > "$stage.tar.gz"
-    echo "dist: $stage.tar.gz ($(sha256sum < "$stage.tar.gz" | cut -c1-16).., $(($(wc -c < "$stage.tar.gz") / 1024)) KB)"
+    tar --sort=name --mtime="@$time" --owner=0 --group=0 --numeric-owner --format=gnu -C "$room" -cf - "$name" | gzip -n -9 > "$packed"
+    echo "dist: $packed ($(sha256sum < "$packed" | cut -c1-16).., $(($(wc -c < "$packed") / 1024)) KB)"
 }
 
 install_into() {
@@ -84,6 +87,7 @@ install_into() {
 tools/archive.sh
 stage_files
 rm -f "$stage.axioms"
-proof > target/dist/PROOF.txt
-mv target/dist/PROOF.txt "$stage/PROOF.txt"
+mkdir -p target/dist target/log
+proof > "$room/PROOF.txt"
+mv "$room/PROOF.txt" "$stage/PROOF.txt"
 if [ $# -eq 1 ]; then install_into "$1"; else pack; fi
