@@ -119,9 +119,13 @@ def orders(_, order):
         yield f"| {names} | {asked} |"
 
 
+def known_of(refusals):
+    return sorted((r for r in refusals if not r.reserved()), key=lambda r: r.number)
+
+
 def rust(refusals, _):
     """The enum, the list of its variants, and their texts."""
-    known = sorted((r for r in refusals if not r.reserved()), key=lambda r: r.number)
+    known = known_of(refusals)
     yield "#[derive(Clone, Copy, Debug, PartialEq, Eq, Hash)]"
     yield "#[non_exhaustive]"
     yield "#[repr(u8)]"
@@ -150,12 +154,69 @@ def rust(refusals, _):
     yield "}"
 
 
+def variants(refusals, _):
+    """The enum of the library."""
+    yield "#[derive(Clone, Copy, Debug, PartialEq, Eq, Hash)]"
+    yield "pub enum Refusal {"
+    for r in known_of(refusals):
+        yield from wrapped(sentence(r.fields["what"]), "    /// ", "    /// ", 100)
+        yield f"    {r.name},"
+    yield "}"
+
+
+def arms(refusals, _):
+    """The number of each refusal, as code."""
+    yield "impl Refusal {"
+    yield "    pub fn number(self) -> u32"
+    yield "        ensures { result ≡ number_of self }"
+    yield "    {"
+    yield "        match self {"
+    for r in known_of(refusals):
+        yield f"            Refusal::{r.name} => {r.number},"
+    yield "        }"
+    yield "    }"
+    yield "}"
+
+
+def mends(refusals, _):
+    """What to mend, as `Display` writes it."""
+    yield "impl fmt::Display for Refusal {"
+    yield "    fn fmt<W: fmt::Write>(&self, f: &mut fmt::Formatter<W>) -> fmt::Result {"
+    yield "        f.write_str(match self {"
+    for r in known_of(refusals):
+        line = f'            Refusal::{r.name} => "{r.text(RUST)}",'
+        if len(line) <= 100:
+            yield line
+        else:
+            yield f"            Refusal::{r.name} => {{"
+            yield f'                "{r.text(RUST)}"'
+            yield "            }"
+    yield "        })"
+    yield "    }"
+    yield "}"
+
+
+def numbers(refusals, _):
+    """The number of each refusal, as a definition."""
+    known = known_of(refusals)
+    yield f"use Rattle.refusals.specs.declared.Refusal.TheVariants.{{{', '.join(r.name for r in known)}}}"
+    yield ""
+    yield "-- the number of a refusal, which is what a caller in C gets"
+    yield "abbrev pub number_of : Refusal → ℕ"
+    yield from (f"number_of {r.name} = {r.number}" for r in known)
+    yield ""
+
+
 PARTS = [
     ("include/rdoq.h", "header", header),
     ("include/rdoq_easy.h", "texts", texts),
     ("README.md", "table", table),
     ("docs/SCOPE.md", "order", orders),
     ("bindings/rust/src/refusal.rs", "rust", rust),
+    ("crates/refusals/src/lib.rt", "variants", variants),
+    ("crates/refusals/src/lib.rt", "arms", arms),
+    ("crates/refusals/src/lib.rt", "mends", mends),
+    ("crates/refusals/specs/Numbers.antt", "numbers", numbers),
 ]
 
 

@@ -98,29 +98,22 @@ pub fn last_count_alike(
 pub fn log2_covered(covered_blocks: usize) -> u32
     ensures { Logarithm covered_blocks result }
 {
-    let mut log2: u32 = 0;
-    while log2 < 11 {
+    for log2 in 0..11 {
         if covered_blocks == 1 << log2 {
             return log2;
         }
-        log2 += 1;
     }
     11
 }
 
 // Whether a coefficient context is defined there. Each number is one that came as 32 bits.
+#[tactic(auto, unfolding(crate::specs::Contexts::is_coefficient))]
 pub fn is_coefficient(nonzeros_left: usize, k: usize, covered_blocks: usize, prev: usize) -> bool
     requires { (nonzeros_left < 2 ^ 32) × ((k < 2 ^ 32) × (covered_blocks < 2 ^ 32)) }
     ensures { result ≡ is_coefficient covered_blocks nonzeros_left k prev }
 {
-    if nonzeros_left < 1 {
-        return false;
-    }
-    if 64 * covered_blocks < nonzeros_left + k {
-        return false;
-    }
-    if k < covered_blocks {
-        return false;
-    }
-    prev < 2
+    1 <= nonzeros_left
+        && nonzeros_left + k <= 64 * covered_blocks
+        && covered_blocks <= k
+        && prev < 2
 }

@@ -1,19 +1,18 @@
 -- The symbol prices of an ANS code: written one by one, and passing check 5. Assumes nothing.
-use Prim.Native.Nat.{ℕ, zero, suc, ◌+◌, ◌*◌, ◌<◌, ◌≤◌}
+use Prim.Native.Nat.{ℕ, ◌+◌, ◌*◌, ◌<◌}
 use mathlib.Core.Path.{◌≡◌, refl, sym, ap, ◌∙◌, subst}
-use mathlib.Core.Bool.{Bool, true, false, not, cond, ◌&&◌, ◌||◌, and-false}
+use mathlib.Core.Bool.{Bool, true, false, not, cond, ◌&&◌}
 use mathlib.Core.List.{List}
 use native.Mathlib.Omega.{arith}
-use borrow.Author.Tests.{eqb-true, eq-eqb, ne_eqb, leb-true, le-leb, lt-leb}
-use lib.Dec.{T, eqb, leb, ltb}
-use lib.IntN.{pos}
+use borrow.Author.Tests.{eqb-true, eq-eqb, leb-true}
+use lib.Dec.{T, eqb, leb}
 use lib.ListN.{length, get_or, set}
-use lib.Ieee.{Float, nan, inf, fin, of_bits, to_bits, nan_bits, le, lt, eq, binary32}
+use lib.Ieee.{Float, nan, of_bits, nan_bits, le, lt, eq, binary32}
 use lib.Ieee.Bits.{is_true}
 use Rattle.laws.proofs.Table.{every}
 use Rattle.laws.proofs.Table as Table
-use Rattle.prices.specs.Book.{Book, at}
-use Rattle.prices.specs.Checks.{each, symbol_price, all_priced}
+use Rattle.prices.specs.Book.{at}
+use Rattle.prices.specs.Checks.{symbol_price, all_priced}
 use Rattle.prices.proofs.Each.{each_all, each_below}
 use Rattle.book_build.specs.Paint.{paint}
 use Rattle.book_build.proofs.Painted.{paint-length, paint-more, paint-at}
@@ -24,39 +23,7 @@ use Rattle.ans_prices.proofs.Whole.{read-price, tested}
 use Rattle.ans_prices.proofs.Whole as Whole
 use Rattle.ans_build.specs.Ans.{all_whole, ans_entry, ans_refusal, ans_symbols}
 
--- ---- which check the builder fails first
-
 module _ (n : ℕ) (freqs : List ℕ) (xs : List Float) where
-  pub none : n ≡ 0 → 1 ≡ ans_refusal n freqs xs
-  unfolding ans_refusal
-  none h = simp (lt-leb 1 n (omega arith))
-
-  pub many : 256 < n → 1 ≡ ans_refusal n freqs xs
-  unfolding ans_refusal
-  many h = simp (lt-leb n 256 h, and-false)
-
-  module _ (some : n ≡ 0 → ⊥) (few : n ≤ 256) where
-    pub freqs-amiss : (length freqs ≡ 128 * n → ⊥) → 2 ≡ ans_refusal n freqs xs
-    unfolding ans_refusal
-    freqs-amiss h = simp (le-leb 1 n (omega arith), le-leb n 256 few, ne_eqb (length freqs) _ h)
-
-    pub symbols-amiss : (length xs ≡ 128 * n → ⊥) → 2 ≡ ans_refusal n freqs xs
-    unfolding ans_refusal
-    symbols-amiss h = simp (le-leb 1 n (omega arith), le-leb n 256 few, ne_eqb (length xs) _ h, and-false)
-
-    module _ (a : length freqs ≡ 128 * n) (b : length xs ≡ 128 * n) where
-      pub too_much : all_whole freqs ≡ false → 19 ≡ ans_refusal n freqs xs
-      unfolding ans_refusal
-      too_much e = simp (le-leb 1 n (omega arith), le-leb n 256 few, eq-eqb (length freqs) _ a, eq-eqb (length xs) _ b, e)
-
-      pub built : all_whole freqs ≡ true → 0 ≡ ans_refusal n freqs xs
-      unfolding ans_refusal
-      built e = simp (le-leb 1 n (omega arith), le-leb n 256 few, eq-eqb (length freqs) _ a, eq-eqb (length xs) _ b, e)
-
-  pub left_alone : (m : ℕ) → suc m ≡ ans_refusal n freqs xs → xs ≡ ans_symbols n freqs xs
-  unfolding ans_symbols
-  left_alone m e = simp (ne_eqb (ans_refusal n freqs xs) 0 (λ z. omega (arith, e)))
-
   pub written : 0 ≡ ans_refusal n freqs xs → ans_symbols n freqs xs ≡ paint (ans_entry freqs) 0 (128 * n) xs
   unfolding ans_symbols
   written e = simp (eq-eqb (ans_refusal n freqs xs) 0 (sym e))

@@ -1,9 +1,8 @@
 -- A book from either builder: where checks 1 to 4 pass, its ready prices filled, it passes checks 1 to 6. Assumes nothing.
 use Prim.Native.Nat.{ℕ, ◌<◌}
-use mathlib.Core.Path.{◌≡◌, refl, ◌∙◌}
-use mathlib.Core.Bool.{Bool, true, cond}
+use mathlib.Core.Path.{◌≡◌}
+use mathlib.Core.Bool.{true}
 use mathlib.Core.List.{List}
-use mathlib.Core.Logic.{⊎_elim}
 use lib.ListN.{get_or}
 use lib.Ieee.{Float}
 use Rattle.prices.specs.Book.{Book}

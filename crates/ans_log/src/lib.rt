@@ -5,15 +5,13 @@
 ghost use Rattle.std.specs.Prelude.{◌≡◌, not, T, is_nan};
 ghost use Rattle.ans_log.specs.Log.{dirty_log2};
 
-use std::num::wrapping_add_u32;
-
 pub fn dirty_log2f(d: f32) -> f32
     requires { T (not (is_nan d)) }
     ensures { result ≡ dirty_log2 d }
 {
-    let i = wrapping_add_u32(f32::to_bits(d), 0x3f80_0000 - 0x3f35_04f3);
+    let i = d.to_bits().wrapping_add(0x3f80_0000 - 0x3f35_04f3);
     let n = (i / 0x80_0000) as f32 - 127.0;
-    let a = f32::from_bits(wrapping_add_u32(i % 0x80_0000, 0x3f35_04f3));
+    let a = f32::from_bits((i % 0x80_0000).wrapping_add(0x3f35_04f3));
     let x = (a - 1.0) / (a + 1.0);
     let y = x * x;
     let p = 0.41219857 * y + 0.57707804;

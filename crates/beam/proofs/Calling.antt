@@ -7,11 +7,9 @@ use lib.IntN.{ℤ}
 use lib.ListN.{length, replicate}
 use Rattle.block.specs.Block.{Block, covered}
 use Rattle.block.specs.Checks.{search_refusal, enough_room}
-use Rattle.block.specs.declared.Answer.{Answer}
-use Rattle.block.specs.declared.Answer.TheVariants.{Refused}
+use Rattle.block.specs.Answer.{Answer}
+use Rattle.block.specs.Answer.{Refused}
 use Rattle.prices.specs.Book.{Book}
-use Rattle.prices.proofs.Passed.{listed, by-lists}
-use Rattle.problem.proofs.Refusals.{searched}
 use Rattle.search_checks.proofs.Checked.{own-lists}
 use Rattle.search_checks.proofs.Refusing.{no_rows}
 use Rattle.search_checks.specs.Checked.{Checked, Searched}
@@ -38,13 +36,10 @@ pub searched-beam : (v : Window) (book : Book) (b : Block) (choices : List ℕ) 
 unfolding searched_outcome
 searched-beam v book b choices a c n = rw (a.0, a.1, c, n)
 
-same-book : (w : ℕ) (v : Window) (book : Book) (b : Block) (choices : List ℕ) → refusal w v book b choices ≡ 0 → book ≡ listed book
-unfolding refusal
-same-book w v book b choices none = by-lists book (searched w v book b _ none).0
-
-pub let-pass : (w : ℕ) (v : Window) (book : Book) (b : Block) (choices : List ℕ) → refusal w v book b choices ≡ 0 → {after : Outcome} → after ≡ searched_outcome v (listed book) b choices → after ≡ beam_outcome w v book b choices
+-- a call whose checks pass answers as the search of the checked book does
+pub let-pass : (w : ℕ) (v : Window) (book : Book) (b : Block) (choices : List ℕ) → refusal w v book b choices ≡ 0 → {checked : Book} → checked ≡ book → {after : Outcome} → after ≡ searched_outcome v checked b choices → after ≡ beam_outcome w v book b choices
 unfolding beam_outcome
-let-pass w v book b choices none e = rw (eq-eqb (refusal w v book b choices) 0 none) (e ∙ ap (λ (k : Book). searched_outcome v k b choices) (sym (same-book w v book b choices none)))
+let-pass w v book b choices none same e = rw (eq-eqb (refusal w v book b choices) 0 none) (e ∙ ap (λ (k : Book). searched_outcome v k b choices) same)
 
 pub by-check : (w : ℕ) (v : Window) (book : Book) (b : Block) (choices : List ℕ) {n : ℕ} → n ≡ search_refusal w v book b (enough_room 6 0 v.length (length choices) 0 0) → n ≡ refusal w v book b choices
 unfolding refusal

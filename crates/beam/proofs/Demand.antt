@@ -2,7 +2,7 @@
 use mathlib.Core.Path.{◌≡◌, refl, sym, ap, ◌∙◌, subst, subst⁻¹}
 use mathlib.Core.Bool.{Bool, true, false, cond}
 use mathlib.Core.List.{List, Memᴰ as Mem}
-use Prim.Native.Nat.{ℕ, ◌≤◌}
+use Prim.Native.Nat.{ℕ}
 use native.Mathlib.Omega.{arith}
 use borrow.Author.Tests.{eqb-true, eq-eqb}
 use lib.Dec.{T, eqb}
@@ -15,8 +15,8 @@ use Rattle.block.specs.Band.{half_width, positions_from, past_window, tail_of, p
 use Rattle.block.specs.Block.{Block, with_levels, covered, input_remaining}
 use Rattle.block.specs.Checks.{block_refusal, beam_room, valid_width}
 use Rattle.block.specs.Choice.{IsChoice, window_levels}
-use Rattle.block.specs.declared.Answer.{Answer}
-use Rattle.block.specs.declared.Answer.TheVariants.{Cost, Refused}
+use Rattle.block.specs.Answer.{Answer}
+use Rattle.block.specs.Answer.{Cost, Refused}
 use Rattle.block_checks.specs.Passed.{Passed}
 use Rattle.least_cost.specs.Choice.{Choice, remaining}
 use Rattle.least_cost.specs.Search.{count_of, whole_cost}

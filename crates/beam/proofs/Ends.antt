@@ -14,15 +14,16 @@ use Rattle.beam_paths.specs.Held.{no_path, PathsFor}
 use Rattle.beam_paths.specs.Path.{Path}
 use Rattle.beam_paths.specs.declared.Paths.{Paths}
 use Rattle.block.specs.Band.{problem_of}
-use Rattle.block.specs.Block.{Block, covered}
+use Rattle.block.specs.Block.{Block}
 use Rattle.block.specs.Cost.{first_prev, count_cost}
 use Rattle.least_cost.specs.Search.{Problem, least, holder}
 use Rattle.prices.specs.Book.{Book}
 use Rattle.steps.specs.Plan.{Planned}
 use Rattle.steps.specs.declared.reading.Plan.{Plan}
 use Rattle.beam.specs.Beam.{path_total, beam_cost, beam_path, problem}
-use Rattle.beam.specs.Held.{paths, considered, Ended}
-use Rattle.beam.specs.declared.ending.Best.{Best}
+use Rattle.beam.specs.Held.{paths, Ended}
+use Rattle.steps.specs.Best.{considered}
+use Rattle.steps.specs.declared.best.Best.{Best}
 use Rattle.search_checks.proofs.Checked.{bit-few}
 use Rattle.weights.specs.declared.Window.{Window}
 use Rattle.beam.proofs.Priced.{all-paths}
@@ -44,17 +45,17 @@ total_here v book b {plan} xs s j prev count w F h e f =
     cc
 
 -- ---- the paths one after the other, from j on
-pub record Sofar (w : Problem) (xs : List Path) (j : ℕ) (best : Best) : Type 0 where
+pub record Sofar (w : Problem) (xs : List Path) (j : ℕ) (best : Best ℕ) : Type 0 where
   pub cost-left : least (path_total w) best.cost (drop j xs) ≡ least (path_total w) (inf false) xs
-  pub path-left : holder (path_total w) best.cost (get_or xs best.path no_path) (drop j xs) ≡ holder (path_total w) (inf false) no_path xs
-  pub inside : T (finite best.cost) → best.path < length xs
+  pub path-left : holder (path_total w) best.cost (get_or xs best.choice no_path) (drop j xs) ≡ holder (path_total w) (inf false) no_path xs
+  pub inside : T (finite best.cost) → best.choice < length xs
 
 past : (xs : List Path) (j : ℕ) → length xs ≤ j → get_or xs j no_path ≡ no_path
 past [] j h = refl
 past (x ∷ xs) zero h = absurd (not-suc-le-zero h)
 past (x ∷ xs) (suc j) h = past xs j (le_of_suc-le-suc h)
 
-pub sofar-start : (w : Problem) (xs : List Path) (x : Float) → x ≡ inf false → length xs ≤ 3 → Sofar w xs 0 (record { cost = x; path = 3 })
+pub sofar-start : (w : Problem) (xs : List Path) (x : Float) → x ≡ inf false → length xs ≤ 3 → Sofar w xs 0 (record { cost = x; choice = 3 })
 sofar-start w xs x e h =
     record {
       cost-left = ap (λ (y : Float). least (path_total w) y xs) e;
@@ -67,14 +68,14 @@ drop_here [] j h = absurd (not-suc-le-zero h)
 drop_here (x ∷ xs) zero h = refl
 drop_here (x ∷ xs) (suc j) h = drop_here xs j (le_of_suc-le-suc h)
 
-pub sofar-more : {w : Problem} {xs : List Path} {j : ℕ} {x y : Best} {cost : Float} → j < length xs → cost ≡ path_total w (get_or xs j no_path) → y ≡ considered x cost j → Sofar w xs j x → Sofar w xs (j + 1) y
+pub sofar-more : {w : Problem} {xs : List Path} {j : ℕ} {x y : Best ℕ} {cost : Float} → j < length xs → cost ≡ path_total w (get_or xs j no_path) → y ≡ considered x cost j → Sofar w xs j x → Sofar w xs (j + 1) y
 unfolding least holder considered
 sofar-more {w} {xs} {j} {x} {y} {cost} h e f s =
     rw (f, e, add-one) (go (lt (path_total w (get_or xs j no_path)) x.cost) (rw (drop_here xs j h) at s.cost-left) (rw (drop_here xs j h) at s.path-left))
   where
     go : (t : Bool) → least (path_total w) (cond t (path_total w (get_or xs j no_path)) x.cost) (drop (suc j) xs) ≡ least (path_total w) (inf false) xs
-        → holder (path_total w) (cond t (path_total w (get_or xs j no_path)) x.cost) (cond t (get_or xs j no_path) (get_or xs x.path no_path)) (drop (suc j) xs) ≡ holder (path_total w) (inf false) no_path xs
-        → Sofar w xs (suc j) (cond t (record { cost = path_total w (get_or xs j no_path); path = j }) x)
+        → holder (path_total w) (cond t (path_total w (get_or xs j no_path)) x.cost) (cond t (get_or xs j no_path) (get_or xs x.choice no_path)) (drop (suc j) xs) ≡ holder (path_total w) (inf false) no_path xs
+        → Sofar w xs (suc j) (cond {A = Best ℕ} t (record { cost = path_total w (get_or xs j no_path); choice = j }) x)
     go true p q = record { cost-left = p; path-left = q; inside = λ k. h }
     go false p q = record { cost-left = p; path-left = q; inside = s.inside }
 
@@ -84,7 +85,7 @@ drop_all [] (suc j) h = refl
 drop_all (x ∷ xs) zero h = absurd (not-suc-le-zero h)
 drop_all (x ∷ xs) (suc j) h = drop_all xs j (le_of_suc-le-suc h)
 
-pub sofar-end : (v : Window) (book : Book) (b : Block) {j : ℕ} {best : Best} → length (paths v book b 0) ≤ j → Sofar (problem v book b) (paths v book b 0) j best → Ended v book b best
+pub sofar-end : (v : Window) (book : Book) (b : Block) {j : ℕ} {best : Best ℕ} → length (paths v book b 0) ≤ j → Sofar (problem v book b) (paths v book b 0) j best → Ended v book b best
 unfolding least holder beam_cost beam_path
 sofar-end v book b {j} {best} h s =
     let none = drop_all (paths v book b 0) j h in

@@ -1,10 +1,10 @@
 -- The paths of a block that passes its checks, with a book that passes its own: what they carry, and what the cheapest of them is. Assumes nothing.
 use mathlib.Core.Path.{◌≡◌, refl, sym, ap, ◌∙◌, subst, subst⁻¹}
-use mathlib.Core.Bool.{Bool, true, false, cond}
+use mathlib.Core.Bool.{Bool, true, false}
 use mathlib.Core.List.Memᴰ.{head as here}
 use mathlib.Core.List.Memᴰ.{tail as there}
 use mathlib.Core.List.{List, [], ◌∷◌, Memᴰ as Mem}
-use Prim.Native.Nat.{ℕ, zero, suc, ◌+◌, ◌-◌, ◌*◌, ◌/◌, ◌≤◌, ◌<◌}
+use Prim.Native.Nat.{ℕ, zero, suc, ◌+◌, ◌-◌, ◌*◌, ◌≤◌, ◌<◌}
 use native.Mathlib.Omega.{arith}
 use native.Mathlib.Nat.{not-suc-le-zero, le_of_suc-le-suc}
 use lib.Dec.{T}
@@ -22,7 +22,7 @@ use Rattle.costs.proofs.Bound.{capped-cost}
 use Rattle.costs.proofs.Order as Order
 use Rattle.costs.proofs.Sum.{add-cost, finite-terms}
 use Rattle.costs.proofs.View.{at-inf, viewed}
-use Rattle.least_cost.specs.Choice.{Choice, remaining, cost_of}
+use Rattle.least_cost.specs.Choice.{Choice, cost_of}
 use Rattle.least_cost.specs.Search.{Problem, count_of, whole_cost}
 use Rattle.least_cost.proofs.First.{Found, found-mem, finite-found, least-cost, least-le}
 use Rattle.prices.specs.Book.{Book}

@@ -7,7 +7,7 @@ use native.Mathlib.Omega.{arith}
 use borrow.Author.Tests.{eqb-true, eqb-false}
 use lib.IntN.{ℤ}
 use lib.Dec.{eqb}
-use lib.ListN.{length, get_or}
+use lib.ListN.{get_or}
 use lib.Ieee.{Float}
 use Rattle.beam_paths.specs.Held.{PathsFor, Named}
 use Rattle.beam_paths.specs.declared.Paths.{Paths}

@@ -1,22 +1,21 @@
 -- The walk: what each position's choice names, and what is written. Assumes nothing.
-use mathlib.Core.Path.{◌≡◌, refl, sym, ap, ap₂, ◌∙◌, subst, subst⁻¹}
+use mathlib.Core.Path.{◌≡◌, sym, ap, ap₂, ◌∙◌, subst}
 use mathlib.Core.Bool.{cond}
-use mathlib.Core.List.{List, [], ◌∷◌}
-use Prim.Native.Nat.{ℕ, zero, suc, ◌+◌, ◌*◌, ◌/◌, ◌%◌, ◌≤◌, ◌<◌, zero-le}
+use mathlib.Core.List.{List}
+use Prim.Native.Nat.{ℕ, suc, ◌+◌, ◌*◌, ◌/◌, ◌%◌, ◌≤◌, ◌<◌}
 use native.Mathlib.Omega.{arith}
-use native.Mathlib.Nat.{le_refl, le_antisymm}
 use native.Mathlib.Numerals.{add-one}
 use lib.IntN.{ℤ, pos}
 use mir.Syntax.{w32}
 use mir.Val.{of_z, to_z}
-use lib.Dec.{T, leb, ltb}
+use lib.Dec.{T, leb}
 use lib.ListN.{length, get_or, drop, set, length-take}
 use lib.Seq.{get_or-take}
 use lib.Ieee.{Float}
 use lib.Ieee.Scale.{finite}
 use Rattle.beam_paths.specs.Held.{way_of, Named}
 use Rattle.beam_paths.specs.Path.{Way, way_levels}
-use Rattle.block.specs.Block.{Block, covered}
+use Rattle.block.specs.Block.{Block}
 use Rattle.block.specs.Band.{position_at, tail_of, half_width}
 use Rattle.candidates.specs.Candidates.{in_array}
 use Rattle.least_cost.specs.Position.{nz}

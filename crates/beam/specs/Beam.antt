@@ -8,8 +8,8 @@ use Rattle.beam_paths.specs.Step.{stepped}
 use Rattle.block.specs.Band.{problem_of, half_width}
 use Rattle.block.specs.Block.{Block, covered}
 use Rattle.block.specs.Checks.{search_refusal, beam_room}
-use Rattle.block.specs.declared.Answer.{Answer}
-use Rattle.block.specs.declared.Answer.TheVariants.{Cost, Refused}
+use Rattle.block.specs.Answer.{Answer}
+use Rattle.block.specs.Answer.{Cost, Refused}
 use Rattle.least_cost.specs.Position.{Position, Tail}
 use Rattle.least_cost.specs.Search.{Problem, least, holder}
 use Rattle.prices.specs.Book.{Book}

@@ -10,8 +10,8 @@ use Rattle.block.specs.Block.{Block, with_levels, covered, input_remaining}
 use Rattle.block.specs.Checks.{valid_width}
 use Rattle.block.specs.Choice.{IsChoice, window_levels}
 use Rattle.block.specs.Outcome.{RefusedKeeps}
-use Rattle.block.specs.declared.Answer.{Answer}
-use Rattle.block.specs.declared.Answer.TheVariants.{Cost, Refused}
+use Rattle.block.specs.Answer.{Answer}
+use Rattle.block.specs.Answer.{Cost, Refused}
 use Rattle.least_cost.specs.Search.{whole_cost}
 use Rattle.prices.specs.Book.{Book}
 use Rattle.weights.specs.Window.{window_of}

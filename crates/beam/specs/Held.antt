@@ -1,6 +1,5 @@
 -- What the code holds of a block's search: the paths and choices of its positions, and what the search finds.
-use Rattle.std.specs.Prelude.{ℕ, suc, ◌+◌, ◌-◌, ◌*◌, ◌≤◌, ◌<◌, ◌≡◌, cond, List, ℤ, length, get_or, T, Float}
-use Rattle.std.specs.Float.Ieee.{lt}
+use Rattle.std.specs.Prelude.{ℕ, suc, ◌+◌, ◌*◌, ◌≤◌, ◌<◌, ◌≡◌, List, ℤ, length, get_or, T, Float}
 use Rattle.std.specs.Float.Ieee.Scale.{finite}
 use Rattle.beam_paths.specs.Held.{PathsFor, Named, no_path}
 use Rattle.beam_paths.specs.Path.{Path}
@@ -15,7 +14,7 @@ use Rattle.steps.specs.Plan.{Coded}
 use Rattle.steps.specs.declared.reading.Plan.{Plan}
 use Rattle.weights.specs.declared.Window.{Window}
 use Rattle.beam.specs.Beam.{beam_paths, beam_cost, beam_path, problem}
-use Rattle.beam.specs.declared.ending.Best.{Best}
+use Rattle.steps.specs.declared.best.Best.{Best}
 
 -- the paths from position i on
 abbrev pub paths : Window → Book → Block → ℕ → List Path
@@ -58,15 +57,11 @@ pub record Countable (book : Book) (plan : Plan) (s : Paths) : Type 0 where
   pub six : length s.costs ≡ 6
   pub counts : (j : ℕ) → j < s.count → get_or s.remaining j 0 ≤ 65536
 
--- a cost that is below the least so far takes its place
-unfoldable pub considered : Best → Float → ℕ → Best
-considered best x j = cond (lt x best.cost) (record { cost = x; path = j }) best
-
 -- the cheapest path that is left, and its place among them
-pub record Ended (v : Window) (book : Book) (b : Block) (best : Best) : Type 0 where
+pub record Ended (v : Window) (book : Book) (b : Block) (best : Best ℕ) : Type 0 where
   pub cost_is : best.cost ≡ beam_cost (problem v book b)
-  pub path_is : path_at v book b 0 best.path ≡ beam_path (problem v book b)
-  pub inside : T (finite best.cost) → best.path < length (paths v book b 0)
+  pub path_is : path_at v book b 0 best.choice ≡ beam_path (problem v book b)
+  pub inside : T (finite best.cost) → best.choice < length (paths v book b 0)
 
 -- a path's levels for its first `prev`
 abbrev pub levels_of : Window → Book → Block → ℕ → ℕ → List ℤ
@@ -82,7 +77,7 @@ pub record Walkable (scan : List ℕ) (source inverse : List Float) (levels : Li
   pub cheap : T (finite ((path_at plan.window book searched.block 0 path).cost (first_prev searched.block count)))
 
 -- a search that is done, and what it was of
-pub record Done (scan : List ℕ) (source inverse : List Float) (levels : List ℤ) (plan : Plan) (choices : List ℕ) (s : Paths) (best : Best) : Type 0 where
+pub record Done (scan : List ℕ) (source inverse : List Float) (levels : List ℤ) (plan : Plan) (choices : List ℕ) (s : Paths) (best : Best ℕ) : Type 0 where
   pub book : Book
   pub searched : Searched book scan source inverse levels plan
   pub reached : Reached plan.window book searched.block 0 choices s

@@ -1,11 +1,13 @@
 // The positions from the last to the first: the paths of each, and its six choice bytes.
 ghost use Rattle.std.specs.Prelude.{◌≡◌, suc, ◌+◌, ◌*◌, ◌≤◌, ◌<◌, length};
 ghost use Rattle.beam_paths.specs.Held.{PathsFor};
-ghost use Rattle.prices.specs.Book.{book_in};
+ghost use Rattle.prices.specs.Contents.{contents};
 ghost use Rattle.search_checks.specs.Checked.{Searched};
 ghost use Rattle.beam.specs.Held.{paths, Stored, Stepped, Reached};
 
 use beam_paths::Paths;
+use block::BlockData;
+use prices::book::PriceBook;
 use steps::reading::Plan;
 
 // Three paths, each with a choice for either `prev`.
@@ -22,39 +24,25 @@ fn store(choices: &mut [u8], at: usize, six: [u8; 6])
 
 // `behind` are the paths of the position after it.
 fn take_position(
-    map: &[u8],
-    configs: &[u8],
-    symbols: &[f32],
-    ready: &[f32],
-    scan: &[u32],
-    source: &[f32],
-    inv_qm: &[f32],
+    book: &PriceBook,
+    block: &BlockData,
     levels: &[i32],
     plan: Plan,
     i: usize,
     behind: Paths,
     choices: &mut [u8],
 ) -> Paths
-    requires searched { Searched (book_in map.now configs.now symbols.now ready.now) scan.now source.now inv_qm.now levels.now plan }
-    requires i_lt_length { (w : Searched (book_in map.now configs.now symbols.now ready.now) scan.now source.now inv_qm.now levels.now plan)
-        → (i < plan.window.length) × PathsFor (paths plan.window (book_in map.now configs.now symbols.now ready.now) w.block (suc i)) behind }
+    requires searched { Searched (contents book.now) block.now.scan.now block.now.source.now block.now.inv_qm.now levels.now plan }
+    requires i_lt_length { (w : Searched (contents book.now) block.now.scan.now block.now.source.now block.now.inv_qm.now levels.now plan)
+        → (i < plan.window.length) × PathsFor (paths plan.window (contents book.now) w.block (suc i)) behind }
     requires i_in_bounds { 6 * i + 6 ≤ length choices.old }
-    ensures { (w : Searched (book_in map.now configs.now symbols.now ready.now) scan.now source.now inv_qm.now levels.now plan)
-        → Stepped plan.window (book_in map.now configs.now symbols.now ready.now) w.block i choices.old choices.new result }
+    ensures { (w : Searched (contents book.now) block.now.scan.now block.now.source.now block.now.inv_qm.now levels.now plan)
+        → Stepped plan.window (contents book.now) w.block i choices.old choices.new result }
 {
     let mut offered = [0i32; 5];
-    let offer = plan.offer(scan, source, inv_qm, levels, i, &mut offered);
+    let offer = plan.offer(block, levels, i, &mut offered);
     let place = plan.place(i, offer.ideal, offer.level);
-    let step = beam_row::take_step(
-        map,
-        configs,
-        symbols,
-        ready,
-        place,
-        &offered,
-        offer.count,
-        behind,
-    );
+    let step = beam_row::take_step(book, place, &offered, offer.count, behind);
     let bytes = step.choices;
     store(choices, BEAM_STRIDE * i, bytes);
     step.paths
@@ -62,13 +50,8 @@ fn take_position(
 
 // The positions before `from`, down to `upto`.
 pub(crate) fn take_positions(
-    map: &[u8],
-    configs: &[u8],
-    symbols: &[f32],
-    ready: &[f32],
-    scan: &[u32],
-    source: &[f32],
-    inv_qm: &[f32],
+    book: &PriceBook,
+    block: &BlockData,
     levels: &[i32],
     plan: Plan,
     from: usize,
@@ -76,22 +59,18 @@ pub(crate) fn take_positions(
     start: Paths,
     choices: &mut [u8],
 ) -> Paths
-    requires searched { Searched (book_in map.now configs.now symbols.now ready.now) scan.now source.now inv_qm.now levels.now plan }
-    requires reached { (w : Searched (book_in map.now configs.now symbols.now ready.now) scan.now source.now inv_qm.now levels.now plan)
-        → Reached plan.window (book_in map.now configs.now symbols.now ready.now) w.block from choices.old start }
+    requires searched { Searched (contents book.now) block.now.scan.now block.now.source.now block.now.inv_qm.now levels.now plan }
+    requires reached { (w : Searched (contents book.now) block.now.scan.now block.now.source.now block.now.inv_qm.now levels.now plan)
+        → Reached plan.window (contents book.now) w.block from choices.old start }
     requires upto_le_from { (upto ≤ from) × (from ≤ plan.window.length) }
     requires length_in_bounds { 6 * plan.window.length ≤ length choices.old }
     ensures choices_len_unchanged { length choices.new ≡ length choices.old }
-    ensures reached_2 { (w : Searched (book_in map.now configs.now symbols.now ready.now) scan.now source.now inv_qm.now levels.now plan)
-        → Reached plan.window (book_in map.now configs.now symbols.now ready.now) w.block upto choices.new result }
+    ensures reached_after { (w : Searched (contents book.now) block.now.scan.now block.now.source.now block.now.inv_qm.now levels.now plan)
+        → Reached plan.window (contents book.now) w.block upto choices.new result }
 {
     let mut paths = start;
-    let mut i = from;
-    while upto < i {
-        i -= 1;
-        paths = take_position(
-            map, configs, symbols, ready, scan, source, inv_qm, levels, plan, i, paths, choices,
-        );
+    for i in (upto..from).rev() {
+        paths = take_position(book, block, levels, plan, i, paths, choices);
     }
     paths
 }

@@ -2,19 +2,23 @@
 ghost use Rattle.std.specs.Prelude.{◌≡◌, ◌*◌, ◌≤◌, length};
 ghost use Rattle.beam_paths.specs.Held.{PathsFor};
 ghost use Rattle.block.specs.Block.{Block};
-ghost use Rattle.prices.specs.Book.{Book, book_in};
+ghost use Rattle.prices.specs.Book.{Book};
+ghost use Rattle.prices.specs.Contents.{contents};
 ghost use Rattle.search_checks.specs.Checked.{Searched};
 ghost use Rattle.search_checks.specs.Start.{Starts};
 ghost use Rattle.weights.specs.declared.Window.{Window};
 ghost use Rattle.beam.specs.Beam.{answered, written};
 ghost use Rattle.beam.specs.Held.{paths, Done};
+ghost use Rattle.block.specs.Answer.{answer_of};
 
-use crate::ending::Best;
 use crate::{ending, positions, walk};
 use beam_paths::Paths;
-use block::Answer;
+use block::{Answer, BlockData, Picked};
+use prices::book::PriceBook;
+use refusals::Refusal;
 use search_checks::start;
 use search_checks::start::Start;
+use steps::best::Best;
 use steps::reading::Plan;
 
 // What follows the window, as the one path to start from.
@@ -32,60 +36,48 @@ fn start_paths(start: Start) -> Paths
 
 // Writes the levels of a finite least cost; else refuses with 16.
 fn write_found(
-    scan: &[u32],
-    source: &[f32],
-    inv_qm: &[f32],
+    block: &BlockData,
     levels: &mut [i32],
     plan: Plan,
     choices: &[u8],
     kept: Paths,
-    best: Best,
+    best: Best<usize>,
 ) -> Answer
-    requires { Done scan.now source.now inv_qm.now levels.old plan choices.now kept best }
-    ensures { (d : Done scan.now source.now inv_qm.now levels.old plan choices.now kept best) → (result ≡ answered plan.window d.book d.searched.block) × (levels.new ≡ written plan.window d.book d.searched.block) }
+    requires { Done block.now.scan.now block.now.source.now block.now.inv_qm.now levels.old plan choices.now kept best }
+    ensures { (d : Done block.now.scan.now block.now.source.now block.now.inv_qm.now levels.old plan choices.now kept best) → (answer_of result ≡ answered plan.window d.book d.searched.block) × (levels.new ≡ written plan.window d.book d.searched.block) }
 {
     if best.cost < costs::infinity() {
-        let path = best.path;
+        let path = best.choice;
         let count = kept.remaining[path];
-        walk::write_levels(scan, source, inv_qm, levels, plan, choices, path, count);
-        return Answer::Cost {
-            cost: best.cost,
+        walk::write_levels(block, levels, plan, choices, path, count);
+        return Ok(Picked {
+            cost: Some(best.cost),
             count: count as u32,
-        };
+        });
     }
-    Answer::Refused(16)
+    Err(Refusal::PathsInfinite)
 }
 
 // The positions are taken by two calls, so that their loop stays a function of its own: inlined beside the checks it takes more instructions.
 pub(crate) fn search(
-    map: &[u8],
-    configs: &[u8],
-    symbols: &[f32],
-    ready: &[f32],
-    scan: &[u32],
-    source: &[f32],
-    inv_qm: &[f32],
+    book: &PriceBook,
+    block: &BlockData,
     levels: &mut [i32],
     plan: Plan,
     choices: &mut [u8],
 ) -> Answer
-    requires searched { Searched (book_in map.now configs.now symbols.now ready.now) scan.now source.now inv_qm.now levels.old plan }
+    requires searched { Searched (contents book.now) block.now.scan.now block.now.source.now block.now.inv_qm.now levels.old plan }
     requires length_in_bounds { 6 * plan.window.length ≤ length choices.old }
     ensures choices_len_unchanged { length choices.new ≡ length choices.old }
-    ensures value { (w : Searched (book_in map.now configs.now symbols.now ready.now) scan.now source.now inv_qm.now levels.old plan)
-        → (result ≡ answered plan.window (book_in map.now configs.now symbols.now ready.now) w.block) × (levels.new ≡ written plan.window (book_in map.now configs.now symbols.now ready.now) w.block) }
+    ensures value { (w : Searched (contents book.now) block.now.scan.now block.now.source.now block.now.inv_qm.now levels.old plan)
+        → (answer_of result ≡ answered plan.window (contents book.now) w.block) × (levels.new ≡ written plan.window (contents book.now) w.block) }
 {
-    let start = start::start_of(map, configs, symbols, ready, plan, scan, levels);
+    let start = start::start_of(book, plan, block.scan, levels);
     let window = plan.window;
     let middle = window.length / 2;
     let later = positions::take_positions(
-        map,
-        configs,
-        symbols,
-        ready,
-        scan,
-        source,
-        inv_qm,
+        book,
+        block,
         levels,
         plan,
         window.length,
@@ -93,9 +85,7 @@ pub(crate) fn search(
         start_paths(start),
         choices,
     );
-    let kept = positions::take_positions(
-        map, configs, symbols, ready, scan, source, inv_qm, levels, plan, middle, 0, later, choices,
-    );
-    let best = ending::best_path(map, configs, symbols, ready, plan, kept);
-    write_found(scan, source, inv_qm, levels, plan, choices, kept, best)
+    let kept = positions::take_positions(book, block, levels, plan, middle, 0, later, choices);
+    let best = ending::best_path(book, plan, kept);
+    write_found(block, levels, plan, choices, kept, best)
 }

@@ -5,6 +5,7 @@ ghost use Rattle.scan.specs.Scan.{put};
 ghost use Rattle.beam.specs.Held.{Walkable, levels_of};
 
 use crate::positions;
+use block::BlockData;
 use steps::reading::Plan;
 use steps::tokens;
 
@@ -19,17 +20,15 @@ fn choice_at(choices: &[u8], i: usize, path: usize, prev: usize) -> usize
 
 // From path `first` of the first position, whose count is `count`.
 pub(crate) fn write_levels(
-    scan: &[u32],
-    source: &[f32],
-    inv_qm: &[f32],
+    block: &BlockData,
     levels: &mut [i32],
     plan: Plan,
     choices: &[u8],
     first: usize,
     count: usize,
 )
-    requires { Walkable scan.now source.now inv_qm.now levels.old plan choices.now first count }
-    ensures { (w : Walkable scan.now source.now inv_qm.now levels.old plan choices.now first count) → levels.new ≡ put scan.now (levels_of plan.window w.book w.searched.block first count) (covered w.searched.block) plan.window.length levels.old }
+    requires { Walkable block.now.scan.now block.now.source.now block.now.inv_qm.now levels.old plan choices.now first count }
+    ensures { (w : Walkable block.now.scan.now block.now.source.now block.now.inv_qm.now levels.old plan choices.now first count) → levels.new ≡ put block.now.scan.now (levels_of plan.window w.book w.searched.block first count) (covered w.searched.block) plan.window.length levels.old }
 {
     let window = plan.window;
     let covered = plan.covered;
@@ -37,10 +36,10 @@ pub(crate) fn write_levels(
     let mut path = first;
     let mut offered = [0i32; 5];
     for i in 0..window.length {
-        plan.offer(scan, source, inv_qm, levels, i, &mut offered);
+        plan.offer(block, levels, i, &mut offered);
         let choice = choice_at(choices, i, path, prev);
         let level = offered[choice % 16];
-        steps::write_level(scan, levels, covered + i, level);
+        steps::write_level(block.scan, levels, covered + i, level);
         prev = steps::nonzero(level);
         path = choice / 16;
     }

@@ -2,10 +2,10 @@
 use mathlib.Core.Path.{◌≡◌, refl, sym, ap, ◌∙◌, subst}
 use mathlib.Core.Bool.{Bool, true, false, cond, ◌||◌, true≢false}
 use mathlib.Core.List.{List, [], ◌∷◌, ◌++◌}
-use Prim.Native.Nat.{ℕ, zero, suc, ◌+◌, ◌≤◌, ◌<◌}
+use Prim.Native.Nat.{min, ℕ, zero, suc, ◌+◌, ◌≤◌, ◌<◌}
 use native.Mathlib.Omega.{arith}
 use lib.Dec.{leb}
-use borrow.Author.Tests.{leb-false}
+use borrow.Author.Tests.{leb-false, leb-true}
 use lib.ListN.{length, get_or, take, length-take}
 use lib.Seq.{get_or-take, take_all, take-suc}
 use native.Mathlib.Numerals.{add-one}
@@ -182,12 +182,12 @@ module _ {q : Position} {xs : List Path} {y : Path} {e : Entry} (Y : EntryIs q x
   goes-is {ys} {k} {i} {b} {t} {other} w at ask e =
       ap (λ (n : ℕ). leb n i || lt (key y) (key (get_or ys i no_path))) w.count_is ∙ sym (ask q xs y (get_or ys i no_path) Y (λ h. at (rw w.count_is h))) ∙ e
 
-pub more-few : (n : ℕ) → n ≤ 3 → cond (leb 3 n) n (suc n) ≤ 3
-more-few n h = go (leb 3 n) refl
+pub next-min : (n : ℕ) → n ≤ 3 → min (n + 1) 3 ≡ cond (leb 3 n) n (suc n)
+next-min n h = go (leb 3 n) refl
   where
-    go : (t : Bool) → leb 3 n ≡ t → cond t n (suc n) ≤ 3
-    go true e = h
-    go false e = leb-false 3 n e
+    go : (t : Bool) → leb 3 n ≡ t → min (n + 1) 3 ≡ cond t n (suc n)
+    go true e = omega (arith, leb-true 3 n e)
+    go false e = omega (arith, leb-false 3 n e)
 
 pub next-is : {q : Position} {xs ys : List Path} {k : Kept} {n : ℕ} → KeptIs q xs ys k → n ≡ cond (leb 3 k.count) k.count (suc k.count) → n ≡ next ys
 next-is w e = rw w.count_is e

@@ -2,14 +2,14 @@
 use mathlib.Core.Path.{◌≡◌, refl, sym, ap, ◌∙◌}
 use mathlib.Core.Bool.{Bool, true, false, ◌||◌}
 use mathlib.Core.List.{List, [], ◌∷◌, ◌++◌}
-use Prim.Native.Nat.{ℕ, zero, suc, ◌+◌, ◌≤◌, ◌<◌}
-use native.Mathlib.Nat.{le_of_suc-le-suc, not-suc-le-zero}
+use Prim.Native.Nat.{ℕ, suc, ◌+◌, ◌<◌}
 use native.Mathlib.Numerals.{add-one}
 use native.Mathlib.Omega.{arith}
 use lib.Dec.{eqb}
-use lib.ListN.{length, get_or, take, set, length-take}
-use lib.Seq.{get_or-take, take_all, take-suc, take-suc-set}
-use borrow.Author.Tests.{eq-eqb, ne_eqb}
+use lib.ListN.{length, get_or, take, set}
+use lib.Seq.{take_all, take-suc, take-suc-set}
+use borrow.Author.Tests.{eq-eqb, ne_eqb, eqb-true, eqb-false}
+use Rattle.std.specs.List.{list_any}
 use Rattle.beam_paths.specs.Path.{Path}
 use Rattle.beam_paths.specs.Step.{has, naming, counts_named}
 use Rattle.beam_paths.specs.Held.{no_path, PathsFor}
@@ -28,25 +28,18 @@ unfolding has
 has_more n [] m = or-false (eqb n m)
 has_more n (k ∷ ns) m = ap (λ (b : Bool). eqb n k || b) (has_more n ns m) ∙ sym (or_assoc (eqb n k) (has n ns) (eqb n m))
 
-or-true : (b : Bool) → b || true ≡ true
-or-true true = refl
-or-true false = refl
+-- the slice's own search
+same : (m n : ℕ) → eqb m n ≡ eqb n m
+same m n = go (eqb n m) refl
+  where
+    go : (t : Bool) → eqb n m ≡ t → eqb m n ≡ t
+    go true e = eq-eqb m n (sym (eqb-true n m e))
+    go false e = ne_eqb m n (λ h. eqb-false n m e (sym h))
 
--- a count that stands in the list is found
-pub has-at : (n : ℕ) (ns : List ℕ) (i : ℕ) → i < length ns → get_or ns i 0 ≡ n → has n ns ≡ true
+pub has-any : (n : ℕ) (ns : List ℕ) → list_any (λ y. eqb y n) ns ≡ has n ns
 unfolding has
-has-at n [] i h e = absurd (not-suc-le-zero h)
-has-at n (m ∷ ns) zero h e = ap (λ (b : Bool). b || has n ns) (eq-eqb n m (sym e))
-has-at n (m ∷ ns) (suc i) h e = ap (λ (b : Bool). eqb n m || b) (has-at n ns i (le_of_suc-le-suc h) e) ∙ or-true (eqb n m)
-
--- one entry more that is another
-pub has-next : (n : ℕ) (ns : List ℕ) (i : ℕ) → i < length ns → (get_or ns i 0 ≡ n → ⊥) → has n (take i ns) ≡ false → has n (take (suc i) ns) ≡ false
-has-next n ns i h other none =
-    ap (has n) (take-suc ns i 0 h) ∙ has_more n (take i ns) (get_or ns i 0) ∙ ap (λ (b : Bool). b || eqb n (get_or ns i 0)) none ∙ ne_eqb n (get_or ns i 0) (λ e. other (sym e))
-
-pub has-none : (n : ℕ) → has n [] ≡ false
-unfolding has
-has-none n = refl
+has-any n [] = refl
+has-any n (m ∷ ns) = rw (same m n, has-any n ns)
 
 -- ---- a count is named: it is there, or it is appended
 pub named-old : (ns : List ℕ) (n : ℕ) → has n ns ≡ true → ns ≡ naming ns n
@@ -70,13 +63,6 @@ counts-more ns [] x = counts-cons ns x [] ∙ counts-none (naming (naming ns x.r
 counts-more ns (y ∷ xs) x =
     let next = naming (naming ns y.remaining) (suc y.remaining) in
     counts-cons ns y (xs ++ (x ∷ [])) ∙ counts-more next xs x ∙ ap (λ (ms : List ℕ). naming (naming ms x.remaining) (suc x.remaining)) (sym (counts-cons ns y xs))
-
--- ---- the loop that looks for a count: it is not among the first i
-pub found : (n : ℕ) (ns : List ℕ) (i k : ℕ) → i < k → k ≤ length ns → get_or ns i 0 ≡ n → has n (take k ns) ≡ true
-found n ns i k h few e = has-at n (take k ns) i (simp length-take (omega arith)) (get_or-take k ns i 0 h ∙ e)
-
-pub missed : (n : ℕ) (ns : List ℕ) (i : ℕ) → i < length ns → (get_or ns i 0 ≡ n → ⊥) → has n (take i ns) ≡ false → has n (take (i + 1) ns) ≡ false
-missed n ns i h other none = ap (λ (k : ℕ). has n (take k ns)) (add-one i) ∙ has-next n ns i h other none
 
 -- path j names its count and the next one
 pub counts-next : {xs : List Path} {s : Paths} {j : ℕ} {ms ms' : List ℕ} (ns : List ℕ) → PathsFor xs s → j < s.count → ns ≡ counts_named [] (take j xs)

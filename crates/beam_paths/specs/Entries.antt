@@ -1,12 +1,11 @@
 -- What the code holds while a position is taken: the counts named, one path with its choices, and the paths kept so far.
-use Rattle.std.specs.Prelude.{ℕ, ◌≤◌, ◌<◌, ◌≡◌, cond, List, ℤ, length, get_or, take, T, Float}
-use Rattle.std.specs.Float.Ieee.{lt}
+use Rattle.std.specs.Prelude.{ℕ, ◌≤◌, ◌<◌, ◌≡◌, List, ℤ, length, get_or, take, T, Float}
 use Rattle.std.specs.Float.Ieee.Scale.{finite}
 use Rattle.least_cost.specs.Position.{Position}
 use Rattle.beam_paths.specs.Path.{Path, Way, way_remaining, way_cost, way_levels}
 use Rattle.beam_paths.specs.Held.{no_path, Named}
 use Rattle.beam_paths.specs.declared.counts.Counts.{Counts}
-use Rattle.beam_paths.specs.declared.entry.Best.{Best}
+use Rattle.steps.specs.Best.{considered}
 use Rattle.beam_paths.specs.declared.entry.Entry.{Entry}
 use Rattle.beam_paths.specs.declared.kept.Kept.{Kept}
 
@@ -14,9 +13,9 @@ use Rattle.beam_paths.specs.declared.kept.Kept.{Kept}
 abbrev pub named : Counts → List ℕ
 named c = take c.length c.counts
 
--- a cost that is below the least so far takes its place
-unfoldable pub considered : Best → Float → ℕ → Best
-considered b x choice = cond (lt x b.cost) (record { cost = x; choice = choice }) b
+-- one way more: each `prev` keeps its own best
+abbrev pub both_considered : Entry → Float → Float → ℕ → Entry
+both_considered e x y choice = record { remaining = e.remaining; first = considered e.first x choice; second = considered e.second y choice }
 
 -- path x with the level c
 abbrev pub taking : Position → ℤ → Path → Path

@@ -1,7 +1,7 @@
 // The counts that the paths reach.
 ghost use Rattle.std.specs.Prelude.{◌≡◌, List, [], ℕ, ◌+◌, ◌<◌, ◌≤◌, length, get_or, take};
 ghost use Rattle.beam_paths.specs.Path.{Path};
-ghost use Rattle.beam_paths.specs.Step.{has, naming, counts_named};
+ghost use Rattle.beam_paths.specs.Step.{naming, counts_named};
 ghost use Rattle.beam_paths.specs.Held.{PathsFor};
 ghost use Rattle.beam_paths.specs.Entries.{named};
 
@@ -14,28 +14,13 @@ pub struct Counts {
     pub counts: [usize; 6],
 }
 
-// Whether n is among the first `many`.
-fn has(counts: &[usize], many: usize, n: usize) -> bool
-    requires { (many ≤ 6) × (length counts.now ≡ 6) }
-    ensures { result ≡ has n (take many counts.now) }
-{
-    let mut i = 0;
-    while i < many {
-        if counts[i] == n {
-            return true;
-        }
-        i += 1;
-    }
-    false
-}
-
 // Names n where it is not yet; the result is how many are named.
 fn name(counts: &mut [usize], many: usize, n: usize) -> usize
     requires { (many < 6) × (length counts.old ≡ 6) }
     ensures counts_after { take result counts.new ≡ naming (take many counts.old) n }
     ensures upper_bound { (result ≤ many + 1) × (length counts.new ≡ 6) }
 {
-    if has(counts, many, n) {
+    if counts[..many].contains(&n) {
         return many;
     }
     counts[many] = n;
@@ -51,12 +36,9 @@ pub fn counts_named(paths: Paths) -> Counts
 {
     let mut counts = [0usize; 6];
     let mut many = 0;
-    let mut j = 0;
-    while j < paths.count {
-        let own = paths.remaining[j];
+    for &own in &paths.remaining[..paths.count] {
         many = name(&mut counts, many, own);
         many = name(&mut counts, many, own + 1);
-        j += 1;
     }
     Counts {
         length: many,

@@ -7,8 +7,9 @@ ghost use Rattle.beam_paths.specs.Step.{key, insert};
 ghost use Rattle.beam_paths.specs.Held.{PathsFor, Remembered};
 ghost use Rattle.beam_paths.specs.Entries.{EntryIs, KeptIs};
 
-use crate::entry::{Best, Entry};
+use crate::entry::Entry;
 use crate::{Paths, Step};
+use steps::best::Best;
 
 #[derive(Clone, Copy)]
 pub struct Kept {
@@ -81,7 +82,7 @@ impl Kept {
         let one = self.one;
         let two = self.two;
         let three = self.three;
-        let count = more(self.count);
+        let count = (self.count + 1).min(3);
         if goes_before(entry, one, self.count, 0) {
             return Kept {
                 count,
@@ -167,22 +168,9 @@ fn byte_of(choice: u32) -> u8
     (choice % 256) as u8
 }
 
-fn more(count: usize) -> usize
-    ensures { result ≡ cond (leb 3 count) count (suc count) }
-{
-    if 3 <= count {
-        return count;
-    }
-    count + 1
-}
-
 // Whether there is no path at `at`, or a dearer one.
 fn goes_before(entry: Entry, other: Entry, count: usize, at: usize) -> bool
     ensures { (q : Position) (xs : List Path) (x y : Path) → EntryIs q xs x entry → (at < count → EntryIs q xs y other) → result ≡ leb count at || lt (key x) (key y) }
 {
-    let dearer = key(entry) < key(other);
-    if count <= at {
-        return true;
-    }
-    dearer
+    count <= at || key(entry) < key(other)
 }

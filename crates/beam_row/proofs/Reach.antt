@@ -1,5 +1,5 @@
 -- The first least of the ways that reach a count, way after way. Assumes nothing.
-use mathlib.Core.Path.{◌≡◌, refl, sym, ap, ◌∙◌, subst, subst⁻¹}
+use mathlib.Core.Path.{◌≡◌, refl, sym, ap, ◌∙◌, subst⁻¹}
 use mathlib.Core.Bool.{Bool, true, false, cond}
 use mathlib.Core.List.{List, [], ◌∷◌, ◌++◌, append-nil, append_assoc}
 use Prim.Native.Nat.{ℕ, suc, ◌+◌, ◌*◌, ◌/◌, ◌%◌, ◌<◌}
@@ -19,8 +19,9 @@ use Rattle.least_cost.proofs.Trial.{nz-le}
 use Rattle.beam_paths.specs.Path.{Path, Way, way_remaining, way_cost, way_levels, ways_of, ways, no_way}
 use Rattle.beam_paths.specs.Step.{reaching, merged}
 use Rattle.beam_paths.specs.Held.{no_path, way_of, Named}
-use Rattle.beam_paths.specs.Entries.{considered, EntryIs}
-use Rattle.beam_paths.specs.declared.entry.Best.{Best}
+use Rattle.beam_paths.specs.Entries.{EntryIs}
+use Rattle.steps.specs.Best.{considered}
+use Rattle.steps.specs.declared.best.Best.{Best}
 use Rattle.beam_paths.specs.declared.entry.Entry.{Entry}
 use Rattle.beam_row.specs.Entries.{way_at, ByWay, BestOf, BothOf}
 
@@ -70,14 +71,14 @@ reaching-none n x (c ∷ cs) own next = rw (ne_eqb (way_remaining (record { path
     other e = let few = nz-le c in own (omega (arith, next))
 
 -- ---- the best so far
-best-same : {q : Position} {xs : List Path} {n p : ℕ} {us ws : List Way} {b : Best} → reaching n ws ≡ reaching n us → BestOf q xs n p us b → BestOf q xs n p ws b
+best-same : {q : Position} {xs : List Path} {n p : ℕ} {us ws : List Way} {b : Best ℕ} → reaching n ws ≡ reaching n us → BestOf q xs n p us b → BestOf q xs n p ws b
 best-same e w = record { cost_is = rw e w.cost_is; by = λ t. rw e (w.by t) }
 
 pub best_none : (q : Position) (xs : List Path) (n p choice : ℕ) → BestOf q xs n p [] (record { cost = inf false; choice = choice })
 unfolding reaching least
 best_none q xs n p choice = record { cost_is = refl; by = λ t. absurd t }
 
-module _ {q : Position} {xs : List Path} {n p : ℕ} {ws : List Way} {b : Best} where
+module _ {q : Position} {xs : List Path} {n p : ℕ} {ws : List Way} {b : Best ℕ} where
   pub best-other : (w : Way) → (way_remaining w ≡ n → ⊥) → BestOf q xs n p ws b → BestOf q xs n p (ws ++ (w ∷ [])) b
   best-other w e = best-same (reaching-other n ws w e)
 
@@ -136,7 +137,7 @@ byte-way q xs j i h =
     rw (above, below) refl
 
 -- ---- the best of all is the merged path
-named_by : {q : Position} {xs : List Path} {n p : ℕ} {ws : List Way} {b : Best} → BestOf q xs n p ws b → T (finite ((merged q ws n).cost p)) → Named q xs p b.choice (merged q ws n)
+named_by : {q : Position} {xs : List Path} {n p : ℕ} {ws : List Way} {b : Best ℕ} → BestOf q xs n p ws b → T (finite ((merged q ws n).cost p)) → Named q xs p b.choice (merged q ws n)
 unfolding merged
 named_by {q} {xs} {n} {p} {ws} {b} w t =
     let by = w.by (subst⁻¹ (λ (x : Float). T (finite x)) w.cost_is t) in

@@ -14,9 +14,9 @@ use Rattle.steps.specs.declared.Place.{Place}
 use Rattle.beam_paths.specs.Path.{Path, Way, way_remaining, way_cost, no_way}
 use Rattle.beam_paths.specs.Step.{reaching}
 use Rattle.beam_paths.specs.Held.{no_path, way_of}
-use Rattle.beam_paths.specs.Entries.{considered}
+use Rattle.steps.specs.Best.{considered}
 use Rattle.beam_paths.specs.declared.Paths.{Paths}
-use Rattle.beam_paths.specs.declared.entry.Best.{Best}
+use Rattle.steps.specs.declared.best.Best.{Best}
 use Rattle.beam_paths.specs.declared.entry.Entry.{Entry}
 
 -- the paths from their parts
@@ -65,7 +65,7 @@ abbrev pub way_at : Position → List Path → ℕ → ℕ → Way
 way_at q xs j i = record { path = get_or xs j no_path; level = get_or q.candidates i (pos 0) }
 
 -- w is the way that a choice names, it reaches count n, and this is its cost
-pub record ByWay (q : Position) (xs : List Path) (n p : ℕ) (w : Way) (b : Best) : Type 0 where
+pub record ByWay (q : Position) (xs : List Path) (n p : ℕ) (w : Way) (b : Best ℕ) : Type 0 where
   pub path : b.choice / 16 < length xs
   pub level : b.choice % 16 < length q.candidates
   pub way_is : way_of q xs b.choice ≡ w
@@ -73,7 +73,7 @@ pub record ByWay (q : Position) (xs : List Path) (n p : ℕ) (w : Way) (b : Best
   pub remaining_is : way_remaining w ≡ n
 
 -- the first least for `prev` p of the ways that reach count n
-pub record BestOf (q : Position) (xs : List Path) (n p : ℕ) (ws : List Way) (b : Best) : Type 0 where
+pub record BestOf (q : Position) (xs : List Path) (n p : ℕ) (ws : List Way) (b : Best ℕ) : Type 0 where
   pub cost_is : b.cost ≡ least (way_cost q p) (inf false) (reaching n ws)
   pub by : T (finite b.cost) → ByWay q xs n p (holder (way_cost q p) (inf false) no_way (reaching n ws)) b
 

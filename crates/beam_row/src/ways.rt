@@ -3,8 +3,7 @@ ghost use Rattle.std.specs.Prelude.{◌≡◌, List, ◌++◌, ◌+◌, ◌*◌,
 ghost use Rattle.ac_context.specs.Contexts.{Coefficient, Covered};
 ghost use Rattle.bias.specs.Level.{is_level};
 ghost use Rattle.least_cost.specs.Position.{Position};
-ghost use Rattle.prices.specs.Book.{book_in};
-ghost use Rattle.prices.specs.Checks.{book_refusal};
+ghost use Rattle.prices.specs.Contents.{contents};
 ghost use Rattle.steps.specs.Place.{distortion_at, context_at};
 ghost use Rattle.beam_paths.specs.Path.{Path, Way, ways_of, ways};
 ghost use Rattle.beam_paths.specs.Step.{merged};
@@ -13,15 +12,14 @@ ghost use Rattle.beam_paths.specs.Entries.{EntryIs};
 ghost use Rattle.beam_row.specs.Held.{spot_of, Stands, Takeable};
 ghost use Rattle.beam_row.specs.Entries.{gathered, Priced, PathIs, Leads, tried, alone, BothOf};
 
-use beam_paths::entry::{Best, Entry};
+use beam_paths::entry::Entry;
+use prices::book::PriceBook;
 use steps::Place;
+use steps::best::Best;
 
 // One candidate more. Both values of `prev` are priced together, and each keeps its own best.
 fn try_way(
-    map: &[u8],
-    configs: &[u8],
-    symbols: &[f32],
-    ready: &[f32],
+    book: &PriceBook,
     place: Place,
     context: usize,
     level: i32,
@@ -30,27 +28,17 @@ fn try_way(
     choice: u32,
     entry: Entry,
 ) -> Entry
-    requires ready_value { book_refusal (book_in map.now configs.now symbols.now ready.now) ≡ 0 }
     requires context_bound { (context + 1 < 14850) × T (is_level level) }
     requires distortion_value { distortion ≡ distortion_at place level }
-    ensures { result ≡ tried (book_in map.now configs.now symbols.now ready.now) place context level tail choice entry }
+    ensures { result ≡ tried (contents book.now) place context level tail choice entry }
 {
-    let pair = place.local_pair(map, configs, symbols, ready, context, level, distortion);
-    let first = entry.first;
-    let second = entry.second;
-    Entry {
-        remaining: entry.remaining,
-        first: first.consider(pair.first + tail, choice),
-        second: second.consider(pair.second + tail, choice),
-    }
+    let pair = place.local_pair(book, context, level, distortion);
+    entry.consider(pair.first + tail, pair.second + tail, choice)
 }
 
 // The candidates of one kind, 0 or nonzero, in front of path j: those that lead it to the entry's count.
 fn try_levels(
-    map: &[u8],
-    configs: &[u8],
-    symbols: &[f32],
-    ready: &[f32],
+    book: &PriceBook,
     place: Place,
     levels: &[i32; 5],
     distortion: &[f32; 5],
@@ -61,23 +49,18 @@ fn try_levels(
     j: usize,
     entry: Entry,
 ) -> Entry
-    requires priced { Priced (book_in map.now configs.now symbols.now ready.now) place count levels.now distortion.now }
+    requires priced { Priced (contents book.now) place count levels.now distortion.now }
     requires context_value { (context ≡ context_at place entry.remaining) × (context + 1 < 14850) }
     requires j_bound { j < 3 }
     ensures remaining_value { result.remaining ≡ entry.remaining }
-    ensures both_of { (q : Position) (xs : List Path) (ws : List Way) → Stands (book_in map.now configs.now symbols.now ready.now) (spot_of place count levels.now) q → Leads xs j nonzero tail entry.remaining
+    ensures both_of { (q : Position) (xs : List Path) (ws : List Way) → Stands (contents book.now) (spot_of place count levels.now) q → Leads xs j nonzero tail entry.remaining
         → BothOf q xs ws entry → BothOf q xs (ws ++ ways_of (get_or xs j no_path) q.candidates) result }
 {
     let mut best = entry;
-    let mut i = 0;
-    while i < count {
-        let level = levels[i];
+    for (i, &level) in levels[..count].iter().enumerate() {
         if steps::nonzero(level) == nonzero {
             best = try_way(
-                map,
-                configs,
-                symbols,
-                ready,
+                book,
                 place,
                 context,
                 level,
@@ -87,17 +70,13 @@ fn try_levels(
                 best,
             );
         }
-        i += 1;
     }
     best
 }
 
 // The candidates in front of path j, where it leads to the entry's count.
 fn try_path(
-    map: &[u8],
-    configs: &[u8],
-    symbols: &[f32],
-    ready: &[f32],
+    book: &PriceBook,
     place: Place,
     levels: &[i32; 5],
     distortion: &[f32; 5],
@@ -109,23 +88,21 @@ fn try_path(
     j: usize,
     entry: Entry,
 ) -> Entry
-    requires priced { Priced (book_in map.now configs.now symbols.now ready.now) place count levels.now distortion.now }
+    requires priced { Priced (contents book.now) place count levels.now distortion.now }
     requires context_value { (context ≡ context_at place entry.remaining) × (context + 1 < 14850) }
     requires remaining_bound { (remaining < 65536) × (j < 3) }
     ensures remaining_value { result.remaining ≡ entry.remaining }
-    ensures both_of { (q : Position) (xs : List Path) (ws : List Way) → Stands (book_in map.now configs.now symbols.now ready.now) (spot_of place count levels.now) q → PathIs xs j remaining first second
+    ensures both_of { (q : Position) (xs : List Path) (ws : List Way) → Stands (contents book.now) (spot_of place count levels.now) q → PathIs xs j remaining first second
         → BothOf q xs ws entry → BothOf q xs (ws ++ ways_of (get_or xs j no_path) q.candidates) result }
 {
     if remaining == entry.remaining {
         return try_levels(
-            map, configs, symbols, ready, place, levels, distortion, count, context, 0, first, j,
-            entry,
+            book, place, levels, distortion, count, context, 0, first, j, entry,
         );
     }
     if remaining + 1 == entry.remaining {
         return try_levels(
-            map, configs, symbols, ready, place, levels, distortion, count, context, 1, second, j,
-            entry,
+            book, place, levels, distortion, count, context, 1, second, j, entry,
         );
     }
     entry
@@ -133,10 +110,7 @@ fn try_path(
 
 // The path of count n: for either `prev` the first least of the ways that reach it.
 pub(crate) fn merge_count(
-    map: &[u8],
-    configs: &[u8],
-    symbols: &[f32],
-    ready: &[f32],
+    book: &PriceBook,
     place: Place,
     levels: &[i32; 5],
     distortion: &[f32; 5],
@@ -146,10 +120,10 @@ pub(crate) fn merge_count(
     costs: &[f32],
     n: usize,
 ) -> Entry
-    requires takeable { Takeable (book_in map.now configs.now symbols.now ready.now) (spot_of place count levels.now) (gathered paths remaining.now costs.now) }
-    requires priced { Priced (book_in map.now configs.now symbols.now ready.now) place count levels.now distortion.now }
+    requires takeable { Takeable (contents book.now) (spot_of place count levels.now) (gathered paths remaining.now costs.now) }
+    requires priced { Priced (contents book.now) place count levels.now distortion.now }
     requires k_bound { n + place.k ≤ 64 * place.covered }
-    ensures { (q : Position) (xs : List Path) → Stands (book_in map.now configs.now symbols.now ready.now) (spot_of place count levels.now) q → PathsFor xs (gathered paths remaining.now costs.now)
+    ensures { (q : Position) (xs : List Path) → Stands (contents book.now) (spot_of place count levels.now) q → PathsFor xs (gathered paths remaining.now costs.now)
         → EntryIs q xs (merged q (ways xs q.candidates) n) result }
 {
     let context = place.context(n);
@@ -162,13 +136,9 @@ pub(crate) fn merge_count(
         first: none,
         second: none,
     };
-    let mut j = 0;
-    while j < paths {
+    for j in 0..paths {
         entry = try_path(
-            map,
-            configs,
-            symbols,
-            ready,
+            book,
             place,
             levels,
             distortion,
@@ -180,17 +150,13 @@ pub(crate) fn merge_count(
             j,
             entry,
         );
-        j += 1;
     }
     entry
 }
 
 // Path j with the sole candidate, which `remaining` counts too.
 pub(crate) fn extend_path(
-    map: &[u8],
-    configs: &[u8],
-    symbols: &[f32],
-    ready: &[f32],
+    book: &PriceBook,
     place: Place,
     level: i32,
     distortion: f32,
@@ -198,15 +164,14 @@ pub(crate) fn extend_path(
     tail: f32,
     j: usize,
 ) -> Entry
-    requires ready_value { book_refusal (book_in map.now configs.now symbols.now ready.now) ≡ 0 }
     requires t { T (is_level level) × (distortion ≡ distortion_at place level) }
     requires covered { Covered place.covered place.log2 × (place.offset + 457 < 14850) }
     requires coefficient { 0 < remaining → Coefficient place.covered remaining place.k 0 }
     requires j_bound { j < 3 }
-    ensures { result ≡ alone (book_in map.now configs.now symbols.now ready.now) place remaining level tail (16 * j) }
+    ensures { result ≡ alone (contents book.now) place remaining level tail (16 * j) }
 {
     let context = place.context(remaining);
-    let pair = place.local_pair(map, configs, symbols, ready, context, level, distortion);
+    let pair = place.local_pair(book, context, level, distortion);
     let choice = (16 * j) as u32;
     Entry {
         remaining,

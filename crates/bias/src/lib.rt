@@ -15,10 +15,7 @@ pub struct DequantBias {
 pub fn is_level(quant: i32) -> bool
     ensures { result ≡ is_level quant }
 {
-    if quant < -32768 {
-        return false;
-    }
-    quant <= 32768
+    -32768 <= quant && quant <= 32768
 }
 
 impl DequantBias {
@@ -27,6 +24,7 @@ impl DequantBias {
         requires { T (is_level quant) }
         ensures { result ≡ biased self quant }
     {
+        // no `match`: an arm of a signed number gives the proof no fact
         if quant == 0 {
             0.0
         } else if quant == 1 {
@@ -43,11 +41,6 @@ impl DequantBias {
     pub fn valid(self) -> bool
         ensures { result ≡ valid_bias self }
     {
-        if 0.0 <= self.one {
-            if self.one <= 2.0 {
-                return self.numerator == 0.145;
-            }
-        }
-        false
+        0.0 <= self.one && self.one <= 2.0 && self.numerator == 0.145
     }
 }

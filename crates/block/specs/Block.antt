@@ -11,7 +11,7 @@ use Rattle.weights.specs.declared.Settings.{Settings}
 use Rattle.weights.specs.declared.Window.{Window}
 use Rattle.block.specs.declared.Shape.{Shape}
 
--- The shape, settings, bias and scale come by value; scan, source, inverse weights and levels are lent. Each may be anything.
+-- A block as a search is lent it: its data, and its levels. Each may be anything.
 pub record Block : Type 0 where
   pub shape : Shape
   pub settings : Settings

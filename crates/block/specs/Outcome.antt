@@ -2,8 +2,8 @@
 use Rattle.std.specs.Prelude.{ℕ, ◌≡◌, false, List, ℤ, length, replicate, Float}
 use Rattle.std.specs.Float.{inf}
 use Rattle.block.specs.Block.{Block}
-use Rattle.block.specs.declared.Answer.{Answer}
-use Rattle.block.specs.declared.Answer.TheVariants.{Refused}
+use Rattle.block.specs.Answer.{Answer}
+use Rattle.block.specs.Answer.{Refused}
 
 -- what a search may write to
 pub record Lent : Type 0 where

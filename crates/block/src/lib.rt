@@ -1,6 +1,10 @@
 // What a search is given besides the price book, and what it answers.
 #![tactic(auto)]
 
+use bias::DequantBias;
+use refusals::Refusal;
+use weights::Settings;
+
 // A block's place in the format: its sides in 8-sample units, strategy code, channel (X = 0, Y = 1, B = 2), quant class
 // and predicted nonzero count.
 #[derive(Clone, Copy)]
@@ -13,10 +17,24 @@ pub struct Shape {
     pub predicted: u8,
 }
 
-// What a search answers: the cost and the count of nonzero levels from scan position c; the count alone; or the number of the refusal.
+// A block besides its levels: its shape, what a search weighs by, the bias and the scale of its channel, the scan order, the coefficients and the inverse weights.
 #[derive(Clone, Copy)]
-pub enum Answer {
-    Cost { cost: f32, count: u32 },
-    Count(u32),
-    Refused(u32),
+pub struct BlockData<'a> {
+    pub shape: Shape,
+    pub settings: Settings,
+    pub bias: DequantBias,
+    pub scale: f32,
+    pub scan: &'a [u32],
+    pub source: &'a [f32],
+    pub inv_qm: &'a [f32],
 }
+
+// What a search picked: what the levels cost, where the search adds that up, and how many of them are nonzero from scan position c on.
+#[derive(Clone, Copy)]
+pub struct Picked {
+    pub cost: Option<f32>,
+    pub count: u32,
+}
+
+// What a search answers.
+pub type Answer = Result<Picked, Refusal>;

@@ -3,38 +3,25 @@
 
 ghost use Rattle.std.specs.Prelude.{◌≡◌, true, ◌&&◌, ◌+◌, ◌*◌, ◌≤◌, eqb, leb, pos, Float, length, get_or};
 ghost use Rattle.ac_context.specs.Contexts.{is_power_below};
-ghost use Rattle.block.specs.Block.{block_of, covered, ideal_at};
+ghost use Rattle.block.specs.Block.{covered, ideal_at};
+ghost use Rattle.block.specs.Data.{block_with};
 ghost use Rattle.block.specs.Checks.{block_refusal, strategy_covered, valid_width, enough_room};
 ghost use Rattle.candidates.specs.Candidates.{is_current};
 ghost use Rattle.candidates.specs.Nearest.{is_ideal};
 ghost use Rattle.prices.specs.Checks.{each};
+ghost use Rattle.refusals.specs.Numbers.{code_of};
 ghost use Rattle.scan.specs.Scan.{Perm, level_at};
 ghost use Rattle.weights.specs.Window.{window_for};
 ghost use Rattle.block_checks.specs.Parts.{form_refusal, content_refusal};
 
-use bias::DequantBias;
-use block::Shape;
-use weights::Settings;
+use block::BlockData;
+use refusals::Refusal;
 
+#[tactic(auto, unfolding(ac_context::specs::Contexts::is_power_below))]
 pub fn is_side(side: u32) -> bool
     ensures { result ≡ is_power_below 6 side }
 {
-    if side == 32 {
-        return true;
-    }
-    if side == 16 {
-        return true;
-    }
-    if side == 8 {
-        return true;
-    }
-    if side == 4 {
-        return true;
-    }
-    if side == 2 {
-        return true;
-    }
-    side == 1
+    matches!(side, 1 | 2 | 4 | 8 | 16 | 32)
 }
 
 // Asked for sides that passed alone, so that the product fits.
@@ -45,28 +32,16 @@ pub fn covered_blocks(cx: u32, cy: u32) -> usize
     (cx as usize) * (cy as usize)
 }
 
-fn hold(n: usize, scan: &[u32], source: &[f32], inv_qm: &[f32], levels: &[i32]) -> bool
-    ensures { result ≡ (eqb (length levels.now) n && eqb (length scan.now) n && eqb (length source.now) n && eqb (length inv_qm.now) n) }
+fn hold(n: usize, block: &BlockData, levels: &[i32]) -> bool
+    ensures { result ≡ (eqb (length levels.now) n && eqb (length block.now.scan.now) n && eqb (length block.now.source.now) n && eqb (length block.now.inv_qm.now) n) }
 {
-    if levels.len() != n {
-        return false;
-    }
-    if scan.len() != n {
-        return false;
-    }
-    if source.len() != n {
-        return false;
-    }
-    inv_qm.len() == n
+    levels.len() == n && block.scan.len() == n && block.source.len() == n && block.inv_qm.len() == n
 }
 
 pub fn is_coded(strategy: u8, channel: u8) -> bool
     ensures { result ≡ (leb strategy 26 && leb channel 2) }
 {
-    if strategy > 26 {
-        return false;
-    }
-    channel <= 2
+    strategy <= 26 && channel <= 2
 }
 
 // ISO/IEC 18181-1: how many 8×8 blocks a varblock of each strategy code covers.
@@ -75,19 +50,13 @@ const STRATEGY_COVERED: [u16; 27] = [
     512,
 ];
 
-fn wide(x: u16) -> usize
-    ensures { result ≡ x }
-{
-    x as usize
-}
-
 // Check 18.
+#[tactic(auto, unfolding(block::specs::Checks::strategy_covered))]
 pub fn fits(strategy: u8, covered_blocks: usize) -> bool
     requires { strategy ≤ 26 }
     ensures { result ≡ eqb covered_blocks (get_or strategy_covered strategy 0) }
 {
-    let code = strategy as usize;
-    covered_blocks == wide(STRATEGY_COVERED[code])
+    covered_blocks == STRATEGY_COVERED[strategy as usize] as usize
 }
 
 // 0 for a level within ±32,767, else 1.
@@ -103,11 +72,9 @@ fn all_within(levels: &[i32]) -> bool
     requires { length levels.now ≤ 65536 }
     ensures { result ≡ each (length levels.now) (λ i. is_current (get_or levels.now i (pos 0))) }
 {
-    let mut bad: u32 = 0;
-    let mut i = 0;
-    while i < levels.len() {
-        bad += outside(levels[i]);
-        i += 1;
+    let mut bad = 0;
+    for &level in levels {
+        bad += outside(level);
     }
     bad == 0
 }
@@ -121,162 +88,115 @@ fn levels_within(covered_blocks: usize, scan: &[u32], levels: &[i32]) -> bool
     if all_within(levels) {
         return true;
     }
-    let n = 63 * covered_blocks;
-    let mut i = 0;
-    while i < n {
+    for i in 0..63 * covered_blocks {
         if !candidates::is_current(steps::level_at(scan, levels, covered_blocks + i)) {
             return false;
         }
-        i += 1;
     }
     true
 }
 
 // Check 13: the ideals of the window.
-fn ideals_within(
-    covered_blocks: usize,
-    window: usize,
-    scan: &[u32],
-    source: &[f32],
-    inv_qm: &[f32],
-    scale: f32,
-) -> bool
-    requires perm { Perm scan.now (64 * covered_blocks) }
+fn ideals_within(covered_blocks: usize, window: usize, block: &BlockData) -> bool
+    requires perm { Perm block.now.scan.now (64 * covered_blocks) }
     requires window_bound { covered_blocks + window ≤ 64 * covered_blocks }
-    requires source_len { length source.now ≡ 64 * covered_blocks }
-    requires inv_qm_len { length inv_qm.now ≡ 64 * covered_blocks }
-    ensures { result ≡ each window (λ i. is_ideal (ideal_at scan.now source.now inv_qm.now scale (covered_blocks + i))) }
+    requires source_len { length block.now.source.now ≡ 64 * covered_blocks }
+    requires inv_qm_len { length block.now.inv_qm.now ≡ 64 * covered_blocks }
+    ensures { result ≡ each window (λ i. is_ideal (ideal_at block.now.scan.now block.now.source.now block.now.inv_qm.now block.now.scale (covered_blocks + i))) }
 {
-    let mut i = 0;
-    while i < window {
-        if !candidates::is_ideal(steps::ideal_at(scan, source, inv_qm, scale, covered_blocks + i)) {
+    for i in 0..window {
+        if !candidates::is_ideal(steps::ideal_at(block, block.scale, covered_blocks + i)) {
             return false;
         }
-        i += 1;
     }
     true
 }
 
 // Checks 7, 8, 9, 18 and 10.
-fn check_form(
-    shape: Shape,
-    settings: Settings,
-    bias: DequantBias,
-    scan: &[u32],
-    source: &[f32],
-    inv_qm: &[f32],
-    levels: &[i32],
-) -> u32
-    ensures { (scale : Float) → result ≡ form_refusal (block_of shape settings bias scale scan.now source.now inv_qm.now levels.now) }
+#[tactic(auto, unfolding(crate::specs::Parts::form_refusal, block::specs::Block::covered, block::specs::Checks::check7, block::specs::Checks::check8, block::specs::Checks::check9, block::specs::Checks::check18, block::specs::Checks::check10, block::specs::Checks::form_checks, laws::specs::Refusals::first_refused))]
+fn check_form(block: &BlockData, levels: &[i32]) -> Result<(), Refusal>
+    ensures { code_of result ≡ form_refusal (block_with block.now levels.now) }
 {
-    let cx = shape.cx;
-    let cy = shape.cy;
-    if !is_side(cx) {
-        return 7;
+    let shape = block.shape;
+    if !is_side(shape.cx) || !is_side(shape.cy) {
+        return Err(Refusal::BlockSide);
     }
-    if !is_side(cy) {
-        return 7;
-    }
-    let covered = covered_blocks(cx, cy);
-    if !hold(64 * covered, scan, source, inv_qm, levels) {
-        return 8;
+    let covered = covered_blocks(shape.cx, shape.cy);
+    if !hold(64 * covered, block, levels) {
+        return Err(Refusal::BlockLength);
     }
     if !is_coded(shape.strategy, shape.channel) {
-        return 9;
+        return Err(Refusal::Strategy);
     }
     if !fits(shape.strategy, covered) {
-        return 18;
+        return Err(Refusal::Sides);
     }
-    if !settings.valid() {
-        return 10;
+    if !block.settings.valid() || !block.bias.valid() {
+        return Err(Refusal::Settings);
     }
-    if bias.valid() { 0 } else { 10 }
+    Ok(())
 }
 
 // Checks 11 to 13, in a window of at most `cap` positions.
-fn check_content(
-    shape: Shape,
-    settings: Settings,
-    bias: DequantBias,
-    scale: f32,
-    scan: &[u32],
-    source: &[f32],
-    inv_qm: &[f32],
-    levels: &[i32],
-    cap: usize,
-) -> u32
-    requires { form_refusal (block_of shape settings bias scale scan.now source.now inv_qm.now levels.now) ≡ 0 }
-    ensures { result ≡ content_refusal (window_for cap (shape.cx * shape.cy)) (block_of shape settings bias scale scan.now source.now inv_qm.now levels.now) }
+#[tactic(auto, unfolding(crate::specs::Parts::content_refusal, block::specs::Block::covered, block::specs::Block::input_at, block::specs::Block::ideal, block::specs::Checks::check11, block::specs::Checks::check12, block::specs::Checks::check13, block::specs::Checks::content_checks, laws::specs::Refusals::first_refused))]
+fn check_content(block: &BlockData, levels: &[i32], cap: usize) -> Result<(), Refusal>
+    requires { form_refusal (block_with block.now levels.now) ≡ 0 }
+    ensures { code_of result ≡ content_refusal (window_for cap (block.now.shape.cx * block.now.shape.cy)) (block_with block.now levels.now) }
 {
-    let covered = covered_blocks(shape.cx, shape.cy);
-    if !scan::each_once(scan) {
-        return 11;
+    let covered = covered_blocks(block.shape.cx, block.shape.cy);
+    if !scan::each_once(block.scan) {
+        return Err(Refusal::Scan);
     }
-    if !levels_within(covered, scan, levels) {
-        return 12;
+    if !levels_within(covered, block.scan, levels) {
+        return Err(Refusal::Level);
     }
     let window = weights::window_under(cap, covered);
-    if ideals_within(covered, window.length, scan, source, inv_qm, scale) {
-        0
-    } else {
-        13
+    if !ideals_within(covered, window.length, block) {
+        return Err(Refusal::Ideal);
     }
+    Ok(())
 }
 
 // Check 26.
+#[tactic(auto, unfolding(block::specs::Checks::valid_width))]
 fn valid_width(width: u32) -> bool
     ensures { result ≡ valid_width width }
 {
-    if width == 0 {
-        return false;
-    }
-    width <= 12
+    1 <= width && width <= 12
 }
 
-// Checks 7 to 13, 18 and 26, with a band of half-width `width` and a window of at most `cap` positions: the number of the first that fails, or 0.
-pub fn check_block(
-    shape: Shape,
-    settings: Settings,
-    bias: DequantBias,
-    scale: f32,
-    scan: &[u32],
-    source: &[f32],
-    inv_qm: &[f32],
-    levels: &[i32],
-    width: u32,
-    cap: usize,
-) -> u32
-    ensures { let b = block_of shape settings bias scale scan.now source.now inv_qm.now levels.now in result ≡ block_refusal width (window_for cap (covered b)) b 0 }
+// Checks 7 to 13, 18 and 26, with a band of half-width `width` and a window of at most `cap` positions.
+#[tactic(auto, unfolding(crate::specs::Parts::form_refusal, crate::specs::Parts::content_refusal, block::specs::Block::covered, block::specs::Checks::form_checks, block::specs::Checks::block_refusal, laws::specs::Refusals::first_refused))]
+pub fn check_block(block: &BlockData, levels: &[i32], width: u32, cap: usize) -> Result<(), Refusal>
+    ensures { let b = block_with block.now levels.now in code_of result ≡ block_refusal width (window_for cap (covered b)) b 0 }
 {
-    let first = check_form(shape, settings, bias, scan, source, inv_qm, levels);
-    if first != 0 {
-        return first;
-    }
+    check_form(block, levels)?;
     if !valid_width(width) {
-        return 26;
+        return Err(Refusal::HalfWidth);
     }
-    check_content(
-        shape, settings, bias, scale, scan, source, inv_qm, levels, cap,
-    )
+    check_content(block, levels, cap)
 }
 
-// Check 14: `bytes` choice bytes a window position, and `floats` costs in each row.
-pub fn enough_room(
-    bytes: usize,
-    floats: usize,
-    window: usize,
-    choices: usize,
-    row_a: usize,
-    row_b: usize,
-) -> bool
-    requires { (bytes ≤ 17179869184) × (window ≤ 1024) }
-    ensures { result ≡ enough_room bytes floats window choices row_a row_b }
+// The room that check 14 asks for: choice bytes a window position, and costs in each row.
+#[derive(Clone, Copy)]
+pub struct Asked {
+    pub bytes: usize,
+    pub floats: usize,
+}
+
+// How much room is lent: choice bytes, and costs in either row.
+#[derive(Clone, Copy)]
+pub struct RoomLengths {
+    pub choices: usize,
+    pub row_a: usize,
+    pub row_b: usize,
+}
+
+// Check 14.
+#[tactic(auto, unfolding(block::specs::Checks::enough_room))]
+pub fn enough_room(asked: Asked, window: usize, room: RoomLengths) -> bool
+    requires { (asked.bytes ≤ 17179869184) × (window ≤ 1024) }
+    ensures { result ≡ enough_room asked.bytes asked.floats window room.choices room.row_a room.row_b }
 {
-    if bytes * window > choices {
-        return false;
-    }
-    if row_a < floats {
-        return false;
-    }
-    row_b >= floats
+    asked.bytes * window <= room.choices && asked.floats <= room.row_a && asked.floats <= room.row_b
 }

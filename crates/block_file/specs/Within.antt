@@ -1,6 +1,7 @@
 -- Where records and their lists lie. Assumes nothing.
 use Rattle.std.specs.Prelude.{ℕ, ◌+◌, ◌*◌, ◌≤◌, ◌≡◌, List, length}
 use Rattle.block_file.specs.declared.record.BlockRecord.{BlockRecord}
+use Rattle.block_file.specs.declared.record.Kind.TheVariants.{Book, Block, Width}
 use Rattle.block_file.specs.declared.record.Measured.{Measured}
 
 -- the lists of a block's record lie within n bytes, and none is longer than may be
@@ -17,6 +18,6 @@ pub record Within (r : BlockRecord) (n : ℕ) : Type 0 where
 -- the record that bytes begin with lies within them, and is as long as its head
 pub record Measures (bytes : List ℕ) (m : Measured) : Type 0 where
   pub inside : m.length ≤ length bytes
-  pub book : m.kind ≡ 3 → 5 ≤ length bytes
-  pub block : m.kind ≡ 4 → 53 ≤ length bytes
-  pub width : m.kind ≡ 6 → 5 ≤ length bytes
+  pub book : m.kind ≡ Book → 5 ≤ length bytes
+  pub block : m.kind ≡ Block → 53 ≤ length bytes
+  pub width : m.kind ≡ Width → 5 ≤ length bytes

@@ -8,13 +8,13 @@ ghost use Rattle.block_file.specs.Word.{word_at};
 
 use bias::DequantBias;
 use block::Shape;
-use weights::{SearchSettings, Settings};
+use weights::Settings;
 
 fn byte_at(bytes: &[u8], at: usize) -> u32
     requires { at < length bytes.now }
     ensures { (result ≡ get_or bytes.now at 0) × (result < 256) }
 {
-    bytes[at] as u32
+    u32::from(bytes[at])
 }
 
 // The number that the four bytes from `at` on hold, the lowest byte first.
@@ -69,14 +69,14 @@ pub fn room_at(bytes: &[u8], at: usize, most: usize) -> usize
     ensures { result ≤ most }
 {
     let length = word_at(bytes, at) as usize;
-    if length < most { length } else { most }
+    length.min(most)
 }
 
-// What a block's record holds before its rooms and lists, with the half-width that was set before it.
+// What a block's record holds before its rooms and lists.
 #[derive(Clone, Copy)]
 pub struct Head {
     pub shape: Shape,
-    pub settings: SearchSettings,
+    pub settings: Settings,
     pub bias: DequantBias,
     pub scale: f32,
 }
@@ -97,26 +97,23 @@ fn shape_at(bytes: &[u8]) -> Shape
     }
 }
 
-fn settings_at(bytes: &[u8], half_width: u32) -> SearchSettings
+fn settings_at(bytes: &[u8]) -> Settings
     requires { 53 ≤ length bytes.now }
 {
-    SearchSettings {
-        weighing: Settings {
-            channel_weight: float_at(bytes, 13),
-            lambda: float_at(bytes, 17),
-            penalty: float_at(bytes, 21),
-            distance: float_at(bytes, 25),
-        },
-        half_width,
+    Settings {
+        channel_weight: float_at(bytes, 13),
+        lambda: float_at(bytes, 17),
+        penalty: float_at(bytes, 21),
+        distance: float_at(bytes, 25),
     }
 }
 
-pub fn head_at(bytes: &[u8], half_width: u32) -> Head
+pub fn head_at(bytes: &[u8]) -> Head
     requires { 53 ≤ length bytes.now }
 {
     Head {
         shape: shape_at(bytes),
-        settings: settings_at(bytes, half_width),
+        settings: settings_at(bytes),
         bias: DequantBias {
             one: float_at(bytes, 29),
             numerator: float_at(bytes, 33),

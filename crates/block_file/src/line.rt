@@ -1,7 +1,7 @@
 // The lines that are printed for a block, each piece put into a buffer.
 ghost use Rattle.std.specs.Prelude.{◌≡◌, ◌+◌, ◌≤◌, length, nat_abs};
 
-use block::Answer;
+use block::{Answer, Picked};
 
 // The room that the head of a line takes at most, and a level that changed.
 pub const HEAD_ROOM: usize = 80;
@@ -13,10 +13,9 @@ fn put(out: &mut [u8], at: usize, text: &[u8]) -> usize
     requires { at + length text.now ≤ length out.old }
     ensures { result ≡ at + length text.now }
 {
-    for i in 0..text.len() {
-        out[at + i] = text[i];
-    }
-    at + text.len()
+    let end = at + text.len();
+    out[at..end].copy_from_slice(text);
+    end
 }
 
 fn put_decimal(out: &mut [u8], at: usize, number: u64) -> usize
@@ -30,7 +29,7 @@ fn put_decimal(out: &mut [u8], at: usize, number: u64) -> usize
 
 // The bits of a cost. No cost is a NaN, which has none of its own.
 fn bits_of(cost: f32) -> u32 {
-    if cost != cost {
+    if cost.is_nan() {
         return 0x7fc0_0000;
     }
     f32::to_bits(cost)
@@ -42,28 +41,34 @@ fn put_bits(out: &mut [u8], at: usize, cost: f32) -> usize
     ensures { result ≤ at + 16 }
 {
     let mut digits = [0u8; 16];
-    let n = io::hex(bits_of(cost) as u64, 8, &mut digits);
+    let n = io::hex(u64::from(bits_of(cost)), 8, &mut digits);
     put(out, at, &digits[..n])
 }
 
+// What a search answered, in words.
 fn put_answer(out: &mut [u8], at: usize, answer: Answer) -> usize
     requires { at + 48 ≤ length out.old }
     ensures { result ≤ at + 48 }
 {
     match answer {
-        Answer::Cost { cost, count } => {
+        Ok(
+            Picked {
+                cost: Some(cost),
+                count,
+            },
+        ) => {
             let after_word = put(out, at, b"cost ");
             let after_cost = put_bits(out, after_word, cost);
             let after_name = put(out, after_cost, b" count ");
-            put_decimal(out, after_name, count as u64)
+            put_decimal(out, after_name, u64::from(count))
         }
-        Answer::Count(count) => {
+        Ok(Picked { cost: None, count }) => {
             let after_name = put(out, at, b"count ");
-            put_decimal(out, after_name, count as u64)
+            put_decimal(out, after_name, u64::from(count))
         }
-        Answer::Refused(number) => {
+        Err(refusal) => {
             let after_name = put(out, at, b"refused ");
-            put_decimal(out, after_name, number as u64)
+            put_decimal(out, after_name, u64::from(refusal.number()))
         }
     }
 }
@@ -81,11 +86,7 @@ pub fn put_head(out: &mut [u8], at: usize, number: u64, name: &[u8], answer: Ans
 fn magnitude(level: i32) -> u64
     ensures { result ≡ nat_abs level }
 {
-    if level < 0 {
-        ((-1 - level) as u64) + 1
-    } else {
-        level as u64
-    }
+    u64::from(level.unsigned_abs())
 }
 
 fn put_level(out: &mut [u8], at: usize, level: i32) -> usize

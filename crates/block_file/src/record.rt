@@ -1,6 +1,7 @@
 // Where a record's lists stand, and whether it is whole.
 ghost use Rattle.std.specs.Prelude.{◌≡◌, ◌+◌, ◌*◌, ◌≤◌, length};
 ghost use Rattle.block_file.specs.Within.{Within, Measures};
+ghost use Rattle.block_file.specs.declared.record.Kind.TheVariants.{Book, Block, Width, Short, Unreadable};
 
 use crate::fields::{HEAD, word_at};
 
@@ -20,23 +21,29 @@ pub const CHOICES: usize = 26688;
 
 pub const ROW: usize = 64;
 
-// Of a record or a list: whole; cut short where the bytes end; longer than may be.
-pub const WHOLE: u8 = 0;
+// The lengths of an entry: of a map or of configurations, and of all other lists.
+const BYTE: usize = 1;
 
-pub const SHORT: u8 = 1;
+const WORD: usize = 4;
 
-pub const TOO_LONG: u8 = 2;
+// A list is whole, cut short where the bytes end, or longer than may be.
+#[derive(Clone, Copy, PartialEq, Eq)]
+pub enum State {
+    Whole,
+    Short,
+    TooLong,
+}
 
 // A list: where its entries start, how many there are, and where the next field stands. All 0 unless it is whole.
 #[derive(Clone, Copy)]
 pub struct List {
-    pub state: u8,
+    pub state: State,
     pub start: usize,
     pub count: usize,
     pub end: usize,
 }
 
-fn no_list(state: u8) -> List
+fn no_list(state: State) -> List
     ensures { (result.start ≡ 0) × ((result.count ≡ 0) × (result.end ≡ 0)) }
 {
     List {
@@ -47,57 +54,30 @@ fn no_list(state: u8) -> List
     }
 }
 
-// The list of bytes that follows another list.
-fn bytes_after(bytes: &[u8], before: List, most: usize) -> List
-    requires { (before.end ≤ length bytes.now) × (most ≤ 65600) }
-    ensures { (result.start + result.count ≤ result.end) × ((result.end ≤ length bytes.now) × (result.count ≤ most)) }
+// The list that follows another one, of entries of `size` bytes each.
+fn list_after(bytes: &[u8], before: List, most: usize, size: usize) -> List
+    requires { (before.end ≤ length bytes.now) × ((most ≤ 66048) × (size ≤ 4)) }
+    ensures { (result.start + size * result.count ≤ result.end) × ((result.end ≤ length bytes.now) × (result.count ≤ most)) }
 {
-    if before.state != WHOLE {
+    if before.state != State::Whole {
         return no_list(before.state);
     }
     let at = before.end;
     if bytes.len() - at < 4 {
-        return no_list(SHORT);
+        return no_list(State::Short);
     }
     let count = word_at(bytes, at) as usize;
     if most < count {
-        return no_list(TOO_LONG);
+        return no_list(State::TooLong);
     }
-    if bytes.len() - at - 4 < count {
-        return no_list(SHORT);
-    }
-    List {
-        state: WHOLE,
-        start: at + 4,
-        count,
-        end: at + 4 + count,
-    }
-}
-
-// The list of numbers of four bytes that follows another list.
-fn words_after(bytes: &[u8], before: List, most: usize) -> List
-    requires { (before.end ≤ length bytes.now) × (most ≤ 66048) }
-    ensures { (result.start + 4 * result.count ≤ result.end) × ((result.end ≤ length bytes.now) × (result.count ≤ most)) }
-{
-    if before.state != WHOLE {
-        return no_list(before.state);
-    }
-    let at = before.end;
-    if bytes.len() - at < 4 {
-        return no_list(SHORT);
-    }
-    let count = word_at(bytes, at) as usize;
-    if most < count {
-        return no_list(TOO_LONG);
-    }
-    if bytes.len() - at - 4 < 4 * count {
-        return no_list(SHORT);
+    if bytes.len() - at - 4 < size * count {
+        return no_list(State::Short);
     }
     List {
-        state: WHOLE,
+        state: State::Whole,
         start: at + 4,
         count,
-        end: at + 4 + 4 * count,
+        end: at + 4 + size * count,
     }
 }
 
@@ -106,7 +86,7 @@ fn up_to(end: usize) -> List
     ensures { result.end ≡ end }
 {
     List {
-        state: WHOLE,
+        state: State::Whole,
         start: end,
         count: 0,
         end,
@@ -133,10 +113,10 @@ pub fn book_record(bytes: &[u8]) -> BookRecord
     ensures count_in_bounds_3 { (result.symbols.start + 4 * result.symbols.count ≤ length bytes.now) × (result.symbols.count ≤ 33024) }
     ensures count_in_bounds_4 { (result.ready.start + 4 * result.ready.count ≤ length bytes.now) × ((result.ready.count ≤ 66048) × (result.ready.end ≤ length bytes.now)) }
 {
-    let map = bytes_after(bytes, up_to(BOOK_HEAD), MAP);
-    let configs = bytes_after(bytes, map, CONFIGS);
-    let symbols = words_after(bytes, configs, SYMBOLS);
-    let ready = words_after(bytes, symbols, READY);
+    let map = list_after(bytes, up_to(BOOK_HEAD), MAP, BYTE);
+    let configs = list_after(bytes, map, CONFIGS, BYTE);
+    let symbols = list_after(bytes, configs, SYMBOLS, WORD);
+    let ready = list_after(bytes, symbols, READY, WORD);
     BookRecord {
         map,
         configs,
@@ -160,13 +140,13 @@ fn before_levels(bytes: &[u8]) -> List
     ensures { result.end ≤ length bytes.now }
 {
     if CHOICES < word_at(bytes, 41) as usize {
-        return no_list(TOO_LONG);
+        return no_list(State::TooLong);
     }
     if ROW < word_at(bytes, 45) as usize {
-        return no_list(TOO_LONG);
+        return no_list(State::TooLong);
     }
     if ROW < word_at(bytes, 49) as usize {
-        return no_list(TOO_LONG);
+        return no_list(State::TooLong);
     }
     up_to(HEAD)
 }
@@ -176,10 +156,10 @@ pub fn block_record(bytes: &[u8]) -> BlockRecord
     requires { 53 ≤ length bytes.now }
     ensures { Within result (length bytes.now) × (result.inverse.end ≤ length bytes.now) }
 {
-    let levels = words_after(bytes, before_levels(bytes), LEVELS);
-    let scan = words_after(bytes, levels, LEVELS);
-    let source = words_after(bytes, scan, LEVELS);
-    let inverse = words_after(bytes, source, LEVELS);
+    let levels = list_after(bytes, before_levels(bytes), LEVELS, WORD);
+    let scan = list_after(bytes, levels, LEVELS, WORD);
+    let source = list_after(bytes, scan, LEVELS, WORD);
+    let inverse = list_after(bytes, source, LEVELS, WORD);
     BlockRecord {
         levels,
         scan,
@@ -191,41 +171,53 @@ pub fn block_record(bytes: &[u8]) -> BlockRecord
 // The length of a half-width's record: tag and number.
 pub const WIDTH_RECORD: usize = 5;
 
-// Kinds of record. A record is unreadable where its tag is unknown, or one of its lists or rooms longer than may be.
-pub const BOOK: u8 = 3;
+// What bytes begin with: a record of a kind; one that is cut short; or one that is unreadable, since its tag is unknown, or one of its lists or rooms longer than
+// may be.
+#[derive(Clone, Copy, PartialEq, Eq)]
+pub enum Kind {
+    Book,
+    Block,
+    Width,
+    Short,
+    Unreadable,
+}
 
-pub const BLOCK: u8 = 4;
-
-pub const UNREADABLE: u8 = 5;
-
-pub const WIDTH: u8 = 6;
-
-// What bytes begin with: a record of this kind and length; or SHORT or UNREADABLE, with length 0.
+// What bytes begin with, and its length, 0 unless it is a whole record.
 #[derive(Clone, Copy)]
 pub struct Measured {
-    pub kind: u8,
+    pub kind: Kind,
     pub length: usize,
 }
 
-// The record of this kind whose last list is this.
-fn ended_by(last: List, kind: u8) -> Measured
-    ensures { (result.length ≤ last.end) × ((result.kind ≡ 3 → kind ≡ 3) × ((result.kind ≡ 4 → kind ≡ 4) × (result.kind ≡ 6 → kind ≡ 6))) }
+fn cut_short() -> Measured
+    ensures { (result.kind ≡ Short) × (result.length ≡ 0) }
 {
-    if last.state == WHOLE {
-        return Measured {
+    Measured {
+        kind: Kind::Short,
+        length: 0,
+    }
+}
+
+fn unreadable() -> Measured
+    ensures { (result.kind ≡ Unreadable) × (result.length ≡ 0) }
+{
+    Measured {
+        kind: Kind::Unreadable,
+        length: 0,
+    }
+}
+
+// The record of this kind whose last list is this.
+fn ended_by(last: List, kind: Kind) -> Measured
+    ensures { (result.length ≤ last.end) × ((result.kind ≡ Book → kind ≡ Book) × ((result.kind ≡ Block → kind ≡ Block) × (result.kind ≡ Width → kind ≡ Width))) }
+{
+    match last.state {
+        State::Whole => Measured {
             kind,
             length: last.end,
-        };
-    }
-    if last.state == SHORT {
-        return Measured {
-            kind: SHORT,
-            length: 0,
-        };
-    }
-    Measured {
-        kind: UNREADABLE,
-        length: 0,
+        },
+        State::Short => cut_short(),
+        State::TooLong => unreadable(),
     }
 }
 
@@ -233,26 +225,20 @@ fn measure_book(bytes: &[u8]) -> Measured
     ensures { Measures bytes.now result }
 {
     if bytes.len() < BOOK_HEAD {
-        return Measured {
-            kind: SHORT,
-            length: 0,
-        };
+        return cut_short();
     }
     let lists = book_record(bytes);
-    ended_by(lists.ready, BOOK)
+    ended_by(lists.ready, Kind::Book)
 }
 
 fn measure_block(bytes: &[u8]) -> Measured
     ensures { Measures bytes.now result }
 {
     if bytes.len() < HEAD {
-        return Measured {
-            kind: SHORT,
-            length: 0,
-        };
+        return cut_short();
     }
     let lists = block_record(bytes);
-    ended_by(lists.inverse, BLOCK)
+    ended_by(lists.inverse, Kind::Block)
 }
 
 // A tag and a half-width.
@@ -260,13 +246,10 @@ fn measure_width(bytes: &[u8]) -> Measured
     ensures { Measures bytes.now result }
 {
     if bytes.len() < WIDTH_RECORD {
-        return Measured {
-            kind: SHORT,
-            length: 0,
-        };
+        return cut_short();
     }
     Measured {
-        kind: WIDTH,
+        kind: Kind::Width,
         length: WIDTH_RECORD,
     }
 }
@@ -276,22 +259,12 @@ pub fn measure(bytes: &[u8]) -> Measured
     ensures { Measures bytes.now result }
 {
     if bytes.len() == 0 {
-        return Measured {
-            kind: SHORT,
-            length: 0,
-        };
+        return cut_short();
     }
-    if bytes[0] == b'K' {
-        return measure_book(bytes);
-    }
-    if bytes[0] == b'C' {
-        return measure_block(bytes);
-    }
-    if bytes[0] == b'W' {
-        return measure_width(bytes);
-    }
-    Measured {
-        kind: UNREADABLE,
-        length: 0,
+    match bytes[0] {
+        b'K' => measure_book(bytes),
+        b'C' => measure_block(bytes),
+        b'W' => measure_width(bytes),
+        _ => unreadable(),
     }
 }

@@ -4,7 +4,7 @@
 ghost use Rattle.std.specs.Prelude.{◌≡◌, ◌+◌, ◌-◌, ◌≤◌, length};
 ghost use Rattle.block_input.specs.Held.{HeldIn, Whole};
 
-use block_file::record;
+use block_file::record::{self, Kind};
 
 // The standard input.
 const STDIN_FILENO: i32 = 0;
@@ -20,7 +20,7 @@ pub fn input_room() -> [u8; INPUT] {
 // of the input came before it.
 #[derive(Clone, Copy)]
 pub struct Held {
-    pub kind: u8,
+    pub kind: Kind,
     pub start: usize,
     pub end: usize,
     pub length: usize,
@@ -28,22 +28,14 @@ pub struct Held {
 }
 
 pub fn is_record(held: Held) -> bool {
-    if held.kind == record::BOOK {
-        return true;
-    }
-    if held.kind == record::WIDTH {
-        return true;
-    }
-    held.kind == record::BLOCK
+    matches!(held.kind, Kind::Book | Kind::Block | Kind::Width)
 }
 
 // Copies `kept` bytes from `start` on to the front.
 fn move_down(input: &mut [u8], start: usize, kept: usize)
     requires { start + kept ≤ length input.old }
 {
-    for i in 0..kept {
-        input[i] = input[start + i];
-    }
+    input.copy_within(start..start + kept, 0);
 }
 
 // Reads more bytes behind those that are held; answers how many.
@@ -75,9 +67,9 @@ fn ended(kept: usize, passed: u64) -> Held
     ensures { HeldIn result }
 {
     let kind = if kept == 0 {
-        record::SHORT
+        Kind::Short
     } else {
-        record::UNREADABLE
+        Kind::Unreadable
     };
     Held {
         kind,
@@ -109,22 +101,23 @@ fn read_on(input: &mut [u8; INPUT], start: usize, end: usize, passed: u64) -> He
     measured(input, 0, kept + more, passed)
 }
 
-// The record after the one that is held, once it is whole. Kind SHORT says that the input ended before it.
+// The record after the one that is held, once it is whole. Kind::Short says that the input ended before it.
 pub fn next_record(input: &mut [u8; INPUT], before: Held) -> Held
     requires { HeldIn before }
     ensures { HeldIn result }
 {
-    let passed = std::num::wrapping_add_u64(before.passed, before.length as u64);
+    let passed = before.passed.wrapping_add(before.length as u64);
     let start = before.start + before.length;
     let mut held = measured(input, start, before.end, passed);
     // Every turn reads a byte or more, so that there are no more turns than the buffer has bytes.
-    let mut turns = input.len();
-    while turns > 0 && held.kind == record::SHORT {
+    for _ in 0..INPUT {
+        if held.kind != Kind::Short {
+            break;
+        }
         held = read_on(input, held.start, held.end, passed);
         if held.end == 0 {
-            return held;
+            break;
         }
-        turns -= 1;
     }
     held
 }

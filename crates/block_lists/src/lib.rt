@@ -3,7 +3,7 @@
 
 pub mod room;
 
-ghost use Rattle.std.specs.Prelude.{◌≡◌, ◌≤◌, length};
+ghost use Rattle.std.specs.Prelude.{◌≤◌, length};
 ghost use Rattle.block_file.specs.Within.{Within};
 ghost use Rattle.block_lists.specs.Lengths.{BookWithin, RoomsWithin};
 
@@ -91,15 +91,5 @@ pub fn rooms_at(bytes: &[u8]) -> RoomLengths
         choices: fields::room_at(bytes, 41, record::CHOICES),
         row_a: fields::room_at(bytes, 45, record::ROW),
         row_b: fields::room_at(bytes, 49, record::ROW),
-    }
-}
-
-// The levels as read, where a search may replace them.
-pub fn copy_levels(from: &[i32], to: &mut [i32])
-    requires { length from.now ≡ length to.old }
-    ensures { to.new ≡ from.now }
-{
-    for i in 0..from.len() {
-        to[i] = from[i];
     }
 }

@@ -1,6 +1,7 @@
 -- Tokens under the configurations of their contexts' clusters.
 use Rattle.std.specs.Prelude.{ℕ, ◌+◌, ◌*◌, List, get_or}
 use Rattle.coding.specs.Coding.{Coding}
+use Rattle.coding.specs.declared.code.Code as Checked
 use Rattle.packing.specs.Hybrid.{extra_value_of}
 use Rattle.prices.specs.Book.{cluster_symbol, cluster_extra}
 use Rattle.block_tokens.specs.Tokens.{Token}
@@ -15,6 +16,10 @@ code_of map configs = record { map = map; configs = configs }
 
 abbrev pub code_in : Coding → Code
 code_in k = code_of k.map k.configs
+
+-- the code that a checked code holds
+abbrev pub contents : Checked.Code → Code
+contents c = code_of c.map.now c.configs.now
 
 abbrev pub cluster_of : Code → ℕ → ℕ
 cluster_of x context = get_or x.map context 0

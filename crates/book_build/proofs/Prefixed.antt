@@ -1,14 +1,14 @@
 -- The symbol prices of a prefix code: written row by row, and passing check 5.
-use Prim.Native.Nat.{ℕ, suc, ◌+◌, ◌*◌, ◌/◌, ◌<◌, ◌≤◌}
+use Prim.Native.Nat.{ℕ, ◌+◌, ◌*◌, ◌/◌, ◌<◌}
 use mathlib.Core.Path.{◌≡◌, refl, sym, ap, ap₂, ◌∙◌, subst}
-use mathlib.Core.Bool.{Bool, true, false, cond, ◌&&◌, and-false}
+use mathlib.Core.Bool.{Bool, true, false, cond, ◌&&◌}
 use mathlib.Core.List.{List}
 use native.Mathlib.Omega.{arith}
 use lib.Dec.{eqb, leb}
 use lib.IntN.{pos}
 use lib.ListN.{length, get_or}
 use lib.Ieee.{Float, nan, fin, of_int, le, lt, eq, binary32}
-use borrow.Author.Tests.{eqb-true, eq-eqb, ne_eqb, le-leb, lt-leb}
+use borrow.Author.Tests.{eqb-true, eq-eqb}
 use Rattle.prices.specs.Book.{at}
 use Rattle.prices.specs.Checks.{each, symbol_price, all_priced}
 use Rattle.prices.proofs.Each.{each_all, each_below}
@@ -34,38 +34,7 @@ row-after p k unseen single xs ys zs eu es ey ez =
     ∙ paint-run (prefix_entry p) (128 * k) 128 xs
     ∙ ap (λ (n : ℕ). paint (prefix_entry p) 0 n xs) (omega arith)
 
--- ---- which check the builder fails first
-
 module _ (p : Prefix) (xs : List Float) where
-  pub none : p.clusters ≡ 0 → 1 ≡ prefix_refusal p xs
-  unfolding prefix_refusal
-  none h = simp (lt-leb 1 p.clusters (omega arith))
-
-  pub many : 256 < p.clusters → 1 ≡ prefix_refusal p xs
-  unfolding prefix_refusal
-  many h = simp (lt-leb p.clusters 256 h, and-false)
-
-  module _ (some : p.clusters ≡ 0 → ⊥) (few : p.clusters ≤ 256) where
-    pub depths-amiss : (length p.depths ≡ 128 * p.clusters → ⊥) → 2 ≡ prefix_refusal p xs
-    unfolding prefix_refusal
-    depths-amiss h = simp (le-leb 1 p.clusters (omega arith), le-leb p.clusters 256 few, ne_eqb _ _ h)
-
-    pub singles-amiss : (length p.singles ≡ p.clusters → ⊥) → 2 ≡ prefix_refusal p xs
-    unfolding prefix_refusal
-    singles-amiss h = simp (le-leb 1 p.clusters (omega arith), le-leb p.clusters 256 few, ne_eqb _ _ h, and-false)
-
-    pub symbols-amiss : (length xs ≡ 128 * p.clusters → ⊥) → 2 ≡ prefix_refusal p xs
-    unfolding prefix_refusal
-    symbols-amiss h = simp (le-leb 1 p.clusters (omega arith), le-leb p.clusters 256 few, ne_eqb (length xs) _ h, and-false)
-
-    pub built : length p.depths ≡ 128 * p.clusters → length p.singles ≡ p.clusters → length xs ≡ 128 * p.clusters → 0 ≡ prefix_refusal p xs
-    unfolding prefix_refusal
-    built d s l = simp (le-leb 1 p.clusters (omega arith), le-leb p.clusters 256 few, eq-eqb _ _ d, eq-eqb _ _ s, eq-eqb _ _ l)
-
-  pub left_alone : (n : ℕ) → suc n ≡ prefix_refusal p xs → xs ≡ prefix_symbols p xs
-  unfolding prefix_symbols
-  left_alone n e = simp (ne_eqb (prefix_refusal p xs) 0 (λ z. omega (arith, e)))
-
   pub written : 0 ≡ prefix_refusal p xs → prefix_symbols p xs ≡ paint (prefix_entry p) 0 (128 * p.clusters) xs
   unfolding prefix_symbols
   written e = simp (eq-eqb (prefix_refusal p xs) 0 (sym e))

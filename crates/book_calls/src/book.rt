@@ -1,6 +1,7 @@
 // The price book: its checks, its prices, and what fills it. A book is lent in five parts: the number of clusters, the cluster of each of the 14,850
 // contexts, and for each cluster three bytes of configuration, 128 symbol prices and 256 ready prices.
 ghost use Rattle.std.specs.Prelude.{◌≡◌};
+ghost use Rattle.refusals.specs.Numbers.{code_of};
 ghost use Rattle.prices.specs.Book.{book_of};
 ghost use Rattle.prices.specs.Checks.{book_refusal, fill_refusal};
 ghost use Rattle.book_build.specs.Fill.{filled_ready};
@@ -8,30 +9,37 @@ ghost use Rattle.book_build.specs.Prefix.{prefix_of, prefix_refusal, prefix_symb
 ghost use Rattle.ans_build.specs.Ans.{ans_refusal, ans_symbols};
 ghost use Rattle.book_calls.specs.Prices.{Priced, PairPriced};
 
-use answers::answer::{Real, RealPair};
+use prices::Pair;
+use refusals::Refusal;
 
-// The number of the first check among 1 to 6 that a book fails, or 0.
-pub fn check_book(clusters: u32, map: &[u8], configs: &[u8], symbols: &[f32], ready: &[f32]) -> u32
-    ensures { result ≡ book_refusal (book_of clusters map.now configs.now symbols.now ready.now) }
+// Checks 1 to 6.
+pub fn check_book(
+    clusters: u32,
+    map: &[u8],
+    configs: &[u8],
+    symbols: &[f32],
+    ready: &[f32],
+) -> Result<(), Refusal>
+    ensures { code_of result ≡ book_refusal (book_of clusters map.now configs.now symbols.now ready.now) }
 {
-    book_checks::check_book(clusters, map, configs, symbols, ready)
+    book_checks::check_book(&price_view::new(clusters, map, configs, symbols, ready))
 }
 
-// Writes every ready price of a book that passes checks 1 to 5, and answers 0. Otherwise answers the number of the first check that fails, and writes nothing.
+// Writes every ready price of a book that passes checks 1 to 5. Otherwise refuses by the first check that fails, and writes nothing.
 pub fn fill_ready(
     clusters: u32,
     map: &[u8],
     configs: &[u8],
     symbols: &[f32],
     ready: &mut [f32],
-) -> u32
-    ensures value { result ≡ fill_refusal (book_of clusters map.now configs.now symbols.now ready.old) }
+) -> Result<(), Refusal>
+    ensures value { code_of result ≡ fill_refusal (book_of clusters map.now configs.now symbols.now ready.old) }
     ensures ready_after { ready.new ≡ filled_ready (book_of clusters map.now configs.now symbols.now ready.old) }
 {
     book_build::fill_ready(clusters, map, configs, symbols, ready)
 }
 
-// Writes every symbol price of a prefix code, and answers 0. Otherwise answers 1 or 2, for its own lengths, and writes nothing. There are 128 depths a cluster,
+// Writes every symbol price of a prefix code. Otherwise refuses by check 1 or 2, for its own lengths, and writes nothing. There are 128 depths a cluster,
 // and a byte that is not 0 where the cluster's code has a single symbol. A symbol that the code lacks costs 15.0, or +infinity under strict pricing; in a cluster
 // without a word every symbol costs 15.0, strict or not.
 pub fn prefix_symbol_bits(
@@ -40,17 +48,17 @@ pub fn prefix_symbol_bits(
     singles: &[u8],
     strict: bool,
     symbols: &mut [f32],
-) -> u32
-    ensures value { result ≡ prefix_refusal (prefix_of clusters depths.now singles.now strict) symbols.old }
+) -> Result<(), Refusal>
+    ensures value { code_of result ≡ prefix_refusal (prefix_of clusters depths.now singles.now strict) symbols.old }
     ensures symbols_after { symbols.new ≡ prefix_symbols (prefix_of clusters depths.now singles.now strict) symbols.old }
 {
     book_build::prefix_symbol_bits(clusters, depths, singles, strict, symbols)
 }
 
-// Writes every symbol price of an ANS code, and answers 0. Otherwise answers 1 or 2, for its own lengths, or 19, and writes nothing. There are 128 frequencies a
+// Writes every symbol price of an ANS code. Otherwise refuses by check 1 or 2, for its own lengths, or 19, and writes nothing. There are 128 frequencies a
 // cluster, each at most 4,096, which is the whole; they need not add up to it. Frequency 0 costs 15.0, any other 12 less its logarithm.
-pub fn ans_symbol_bits(clusters: u32, freqs: &[u16], symbols: &mut [f32]) -> u32
-    ensures value { result ≡ ans_refusal clusters freqs.now symbols.old }
+pub fn ans_symbol_bits(clusters: u32, freqs: &[u16], symbols: &mut [f32]) -> Result<(), Refusal>
+    ensures value { code_of result ≡ ans_refusal clusters freqs.now symbols.old }
     ensures symbols_after { symbols.new ≡ ans_symbols clusters freqs.now symbols.old }
 {
     ans_build::ans_symbol_bits(clusters, freqs, symbols)
@@ -65,10 +73,14 @@ pub fn token_bits(
     ready: &[f32],
     context: u32,
     value: u32,
-) -> Real
+) -> Result<f32, Refusal>
     ensures { Priced (book_of clusters map.now configs.now symbols.now ready.now) context value result }
 {
-    price_leaves::token_bits(clusters, map, configs, symbols, ready, context, value)
+    price_leaves::token_bits(
+        &price_view::new(clusters, map, configs, symbols, ready),
+        context,
+        value,
+    )
 }
 
 // The prices of a value in a context and the next one.
@@ -80,8 +92,12 @@ pub fn token_bits_pair(
     ready: &[f32],
     context: u32,
     value: u32,
-) -> RealPair
+) -> Result<Pair, Refusal>
     ensures { PairPriced (book_of clusters map.now configs.now symbols.now ready.now) context value result }
 {
-    price_leaves::token_bits_pair(clusters, map, configs, symbols, ready, context, value)
+    price_leaves::token_bits_pair(
+        &price_view::new(clusters, map, configs, symbols, ready),
+        context,
+        value,
+    )
 }

@@ -5,37 +5,22 @@ ghost use Rattle.prices.specs.Book.{book_of};
 ghost use Rattle.price_view.specs.View.{book_in};
 ghost use Rattle.price_leaves.specs.Leaf.{price_reply, pair_reply};
 
-use answers::answer::{Real, RealPair};
 pub use price_view::{PriceView, new};
+use prices::Pair;
+use refusals::Refusal;
 
 // The price of a value of at most 131,071 in a context, as `book::token_bits` answers it.
-pub fn token_bits<'a>(view: PriceView<'a>, context: u32, value: u32) -> Real
+pub fn token_bits<'a>(view: PriceView<'a>, context: u32, value: u32) -> Result<f32, Refusal>
     ensures { result ≡ price_reply (book_in view.entry) context value }
 {
-    price_leaves::token_bits(
-        view.clusters,
-        view.map,
-        view.configs,
-        view.symbols,
-        view.ready,
-        context,
-        value,
-    )
+    price_leaves::token_bits(&view, context, value)
 }
 
 // The prices of a value in a context and the next one.
-pub fn token_bits_pair<'a>(view: PriceView<'a>, context: u32, value: u32) -> RealPair
+pub fn token_bits_pair<'a>(view: PriceView<'a>, context: u32, value: u32) -> Result<Pair, Refusal>
     ensures { result ≡ pair_reply (book_in view.entry) context value }
 {
-    price_leaves::token_bits_pair(
-        view.clusters,
-        view.map,
-        view.configs,
-        view.symbols,
-        view.ready,
-        context,
-        value,
-    )
+    price_leaves::token_bits_pair(&view, context, value)
 }
 
 // The price by way of a view, from plain slices of one lifetime. Its contract says nothing of a view, so a caller of it has an ordinary proof.
@@ -47,7 +32,7 @@ pub fn token_bits_by_view<'a>(
     ready: &'a [f32],
     context: u32,
     value: u32,
-) -> Real
+) -> Result<f32, Refusal>
     ensures { result ≡ price_reply (book_of clusters map.now configs.now symbols.now ready.now) context value }
 {
     token_bits(new(clusters, map, configs, symbols, ready), context, value)
@@ -62,7 +47,7 @@ pub fn token_bits_pair_by_view<'a>(
     ready: &'a [f32],
     context: u32,
     value: u32,
-) -> RealPair
+) -> Result<Pair, Refusal>
     ensures { result ≡ pair_reply (book_of clusters map.now configs.now symbols.now ready.now) context value }
 {
     token_bits_pair(new(clusters, map, configs, symbols, ready), context, value)

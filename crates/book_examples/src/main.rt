@@ -1,16 +1,18 @@
 // Document 01's examples of a price book that are not starred, and more of its checks, through the public calls. Prints a line for each: what was asked, and
-// the answer. Prices are printed as the eight hexadecimal digits of their bits. Then values priced through a view, see `views`.
+// the answer; where a book is filled first, a refusal of that shows in the answer too. Prices are printed as the eight hexadecimal digits of their bits.
+// Then values priced through a view, see `views`.
 #![tactic(auto)]
 
 mod views;
 
 ghost use Rattle.std.specs.Prelude.{◌≡◌, ◌≤◌, ◌<◌, length};
 
-use answers::answer::{Real, RealPair};
 use book_calls::book::{check_book, fill_ready, prefix_symbol_bits, token_bits, token_bits_pair};
+use prices::Pair;
+use refusals::Refusal;
 
-// The standard output.
-const STDOUT_FILENO: i32 = 1;
+// Standard output.
+pub(crate) const STDOUT_FILENO: i32 = 1;
 
 // A map of every context to cluster 0. Only its length is told, which lending it needs.
 fn zero_map() -> [u8; 14850]
@@ -21,54 +23,58 @@ fn zero_map() -> [u8; 14850]
 
 fn say(text: &[u8], answer: u32) {
     io::write_all(STDOUT_FILENO, text);
-    io::print_decimal(STDOUT_FILENO, answer as u64);
+    io::print_decimal(STDOUT_FILENO, u64::from(answer));
     io::write_all(STDOUT_FILENO, b"\n");
+}
+
+fn say_checked(text: &[u8], checked: Result<(), Refusal>) {
+    say(text, refusals::code(checked));
 }
 
 fn print_bits(price: f32) {
     // A NaN has no bits of its own.
-    if price != price {
+    if price.is_nan() {
         io::write_all(STDOUT_FILENO, b"NaN");
         return;
     }
-    io::print_hex(STDOUT_FILENO, f32::to_bits(price) as u64, 8);
+    io::print_hex(STDOUT_FILENO, u64::from(price.to_bits()), 8);
 }
 
-fn say_price(text: &[u8], answer: Real) {
+fn say_price(text: &[u8], answer: Result<f32, Refusal>) {
     match answer {
-        Real::Value(price) => {
+        Ok(price) => {
             io::write_all(STDOUT_FILENO, text);
             print_bits(price);
             io::write_all(STDOUT_FILENO, b"\n");
         }
-        Real::Refused(number) => say(text, number),
+        Err(refusal) => say(text, refusal.number()),
     }
 }
 
-fn say_pair(text: &[u8], answer: RealPair) {
+fn say_pair(text: &[u8], answer: Result<Pair, Refusal>) {
     match answer {
-        RealPair::Value(first, second) => {
+        Ok(pair) => {
             io::write_all(STDOUT_FILENO, text);
-            print_bits(first);
+            print_bits(pair.first);
             io::write_all(STDOUT_FILENO, b" ");
-            print_bits(second);
+            print_bits(pair.second);
             io::write_all(STDOUT_FILENO, b"\n");
         }
-        RealPair::Refused(number) => say(text, number),
+        Err(refusal) => say(text, refusal.number()),
     }
 }
 
 // Checks a book of one cluster whose ready prices were filled.
-fn check_filled(map: &[u8], configs: &[u8], symbols: &[f32]) -> u32 {
+fn check_filled(map: &[u8], configs: &[u8], symbols: &[f32]) -> Result<(), Refusal> {
     let mut ready: [f32; 256] = [0.0; 256];
-    fill_ready(1, map, configs, symbols, &mut ready);
+    fill_ready(1, map, configs, symbols, &mut ready)?;
     check_book(1, map, configs, symbols, &ready)
 }
 
 fn configuration(text: &[u8], map: &[u8], s: u8, m: u8, l: u8) {
     let configs = [s, m, l];
     let symbols: [f32; 128] = [1.0; 128];
-    say(text, check_filled(map, &configs, &symbols));
+    say_checked(text, check_filled(map, &configs, &symbols));
 }
 
 fn configurations(map: &[u8]) {
@@ -86,7 +92,7 @@ fn symbol_price(text: &[u8], map: &[u8], price: f32) {
     let configs: [u8; 3] = [4, 2, 0];
     let mut symbols: [f32; 128] = [1.0; 128];
     symbols[127] = price;
-    say(text, check_filled(map, &configs, &symbols));
+    say_checked(text, check_filled(map, &configs, &symbols));
 }
 
 fn infinity() -> f32 {
@@ -109,9 +115,9 @@ fn ready_price(text: &[u8], map: &[u8], price: f32, at: usize, kept: f32)
     let configs: [u8; 3] = [4, 2, 0];
     let symbols: [f32; 128] = [price; 128];
     let mut ready: [f32; 256] = [0.0; 256];
-    fill_ready(1, map, &configs, &symbols, &mut ready);
+    let _ = fill_ready(1, map, &configs, &symbols, &mut ready);
     ready[at] = kept;
-    say(text, check_book(1, map, &configs, &symbols, &ready));
+    say_checked(text, check_book(1, map, &configs, &symbols, &ready));
 }
 
 // At symbol price 1.0 value 0 costs 1.0 and value 255, with 5 extra bits, 6.0; the floats that follow these are one bit off.
@@ -153,9 +159,9 @@ fn ready_without_a_word(text: &[u8], map: &[u8], kept: f32) {
     let configs: [u8; 3] = [6, 3, 3];
     let symbols: [f32; 128] = [1.0; 128];
     let mut ready: [f32; 256] = [0.0; 256];
-    fill_ready(1, map, &configs, &symbols, &mut ready);
+    let _ = fill_ready(1, map, &configs, &symbols, &mut ready);
     ready[128] = kept;
-    say(text, check_book(1, map, &configs, &symbols, &ready));
+    say_checked(text, check_book(1, map, &configs, &symbols, &ready));
 }
 
 fn ready_without_words(map: &[u8]) {
@@ -177,7 +183,7 @@ fn lengths(
     let configs: [u8; 3] = [4, 2, 0];
     let symbols: [f32; 128] = [1.0; 128];
     let ready: [f32; 256] = [1.0; 256];
-    say(
+    say_checked(
         text,
         check_book(
             clusters,
@@ -202,7 +208,7 @@ fn all_lengths(map: &[u8]) {
 fn fill_but_one(map: &[u8], configs: &[u8], symbols: &[f32], ready: &mut [f32])
     requires { 256 ≡ length ready.old }
 {
-    fill_ready(1, map, configs, symbols, ready);
+    let _ = fill_ready(1, map, configs, symbols, ready);
     ready[3] = 0.0;
 }
 
@@ -232,7 +238,7 @@ fn prefix_code(zero: &[u8], three: &[u8], map: &[u8], single: u8, strict: bool) 
     depths[1] = 3;
     let singles = [single];
     let mut symbols: [f32; 128] = [1.0; 128];
-    prefix_symbol_bits(1, &depths, &singles, strict, &mut symbols);
+    let _ = prefix_symbol_bits(1, &depths, &singles, strict, &mut symbols);
     price(zero, map, &symbols, 0, 0);
     price(three, map, &symbols, 0, 1);
 }
@@ -271,8 +277,8 @@ fn untrained_cluster() {
     let singles: [u8; 2] = [0, 1];
     let mut symbols: [f32; 256] = [1.0; 256];
     let mut ready: [f32; 512] = [0.0; 512];
-    prefix_symbol_bits(2, &depths, &singles, true, &mut symbols);
-    fill_ready(2, &map, &configs, &symbols, &mut ready);
+    let _ = prefix_symbol_bits(2, &depths, &singles, true, &mut symbols);
+    let _ = fill_ready(2, &map, &configs, &symbols, &mut ready);
     say_pair(
         b"strict, value 0 in a cluster with a word and in one without: ",
         token_bits_pair(2, &map, &configs, &symbols, &ready, 0, 0),
@@ -306,7 +312,7 @@ fn split_price(text: &[u8], map: &[u8], s: u8, m: u8, l: u8, value: u32) {
     let configs: [u8; 6] = [s, m, l, s, m, l];
     let symbols: [f32; 256] = [1.0; 256];
     let mut ready: [f32; 512] = [0.0; 512];
-    fill_ready(2, map, &configs, &symbols, &mut ready);
+    let _ = fill_ready(2, map, &configs, &symbols, &mut ready);
     say_price(
         text,
         token_bits(2, map, &configs, &symbols, &ready, 0, value),
@@ -327,7 +333,7 @@ fn short_map(map: &[u8])
 {
     let configs: [u8; 3] = [4, 2, 0];
     let symbols: [f32; 128] = [1.0; 128];
-    say(
+    say_checked(
         b"map of 14,849: ",
         check_filled(&map[..14849], &configs, &symbols),
     );
@@ -340,7 +346,7 @@ fn map_entry(map: &mut [u8])
     let configs: [u8; 3] = [4, 2, 0];
     let symbols: [f32; 128] = [1.0; 128];
     map[14849] = 1;
-    say(b"map entry 1: ", check_filled(map, &configs, &symbols));
+    say_checked(b"map entry 1: ", check_filled(map, &configs, &symbols));
     lengths(map, b"map entry 1 and 127 symbol prices: ", 1, 3, 127, 256);
 }
 

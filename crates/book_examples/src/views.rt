@@ -2,11 +2,10 @@
 // price as the eight hexadecimal digits of its bits.
 ghost use Rattle.std.specs.Prelude.{◌≡◌, length};
 
-use answers::answer::{Real, RealPair};
+use crate::STDOUT_FILENO;
 use book_calls::{book, view};
-
-// The standard output.
-const STDOUT_FILENO: i32 = 1;
+use prices::Pair;
+use refusals::Refusal;
 
 // A map of every context to cluster 0, but of context 1 to cluster 1. Only its length is told, which lending it needs.
 fn two_clusters() -> [u8; 14850]
@@ -27,53 +26,39 @@ fn say_equal(equal: bool) {
 
 fn say_price(viewed: f32, plain: f32) {
     // A NaN has no bits of its own.
-    if viewed != viewed {
+    if viewed.is_nan() || plain.is_nan() {
         io::write_all(STDOUT_FILENO, b" NaN");
         return;
     }
-    if plain != plain {
-        io::write_all(STDOUT_FILENO, b" NaN");
-        return;
-    }
-    let one = f32::to_bits(viewed);
-    let two = f32::to_bits(plain);
+    let one = viewed.to_bits();
+    let two = plain.to_bits();
     io::write_all(STDOUT_FILENO, b" ");
-    io::print_hex(STDOUT_FILENO, one as u64, 8);
+    io::print_hex(STDOUT_FILENO, u64::from(one), 8);
     say_equal(one == two);
 }
 
-fn say_refusal(viewed: u32, plain: u32) {
+fn say_refusal(viewed: Refusal, plain: Refusal) {
     io::write_all(STDOUT_FILENO, b" ");
-    io::print_decimal(STDOUT_FILENO, viewed as u64);
+    io::print_decimal(STDOUT_FILENO, u64::from(viewed.number()));
     say_equal(viewed == plain);
 }
 
-fn say_one(viewed: Real, plain: Real) {
-    match viewed {
-        Real::Value(one) => match plain {
-            Real::Value(two) => say_price(one, two),
-            Real::Refused(_) => say_equal(false),
-        },
-        Real::Refused(one) => match plain {
-            Real::Value(_) => say_equal(false),
-            Real::Refused(two) => say_refusal(one, two),
-        },
+fn say_one(viewed: Result<f32, Refusal>, plain: Result<f32, Refusal>) {
+    match (viewed, plain) {
+        (Ok(one), Ok(two)) => say_price(one, two),
+        (Err(one), Err(two)) => say_refusal(one, two),
+        _ => say_equal(false),
     }
 }
 
-fn say_two(viewed: RealPair, plain: RealPair) {
-    match viewed {
-        RealPair::Value(one, next) => match plain {
-            RealPair::Value(two, after) => {
-                say_price(one, two);
-                say_price(next, after);
-            }
-            RealPair::Refused(_) => say_equal(false),
-        },
-        RealPair::Refused(one) => match plain {
-            RealPair::Value(_, _) => say_equal(false),
-            RealPair::Refused(two) => say_refusal(one, two),
-        },
+fn say_two(viewed: Result<Pair, Refusal>, plain: Result<Pair, Refusal>) {
+    match (viewed, plain) {
+        (Ok(one), Ok(two)) => {
+            say_price(one.first, two.first);
+            say_price(one.second, two.second);
+        }
+        (Err(one), Err(two)) => say_refusal(one, two),
+        _ => say_equal(false),
     }
 }
 
@@ -169,7 +154,7 @@ pub fn price_through_a_view() {
     symbols[144] = 2.0;
     symbols[199] = 2.0;
     let mut ready: [f32; 512] = [0.0; 512];
-    book::fill_ready(2, &map, &configs, &symbols, &mut ready);
+    let _ = book::fill_ready(2, &map, &configs, &symbols, &mut ready);
     ready[3] = 0.0;
     comparisons(&map, &configs, &symbols, &ready);
 }

@@ -20,11 +20,11 @@ use Rattle.book_rows.specs.Row.{Row, above}
 use Rattle.prices.specs.Checks.{symbol_price, same_bits}
 use Rattle.prices.proofs.Passed.{Sound, same_float}
 
-pub no_nan : (x : Float) → ne x x ≡ false → T (not (is_nan x))
+is-nan : (x : Float) → is_nan x ≡ true → x ≡ nan
 unfolding is_nan
-no_nan nan e = absurd (false≢true (sym e ∙ nan_differs))
-no_nan (inf s) e = tt
-no_nan (fin s m d) e = tt
+is-nan nan e = refl
+is-nan (inf s) e = absurd (false≢true e)
+is-nan (fin s m d) e = absurd (false≢true e)
 
 pub cost-no-nan : (x : Float) → T (cost x) → T (not (is_nan x))
 unfolding is_nan cost
@@ -33,23 +33,17 @@ cost-no-nan (inf s) h = tt
 cost-no-nan (fin s m e) h = tt
 
 -- a NaN has not the bits of a cost
-pub nan-bits : (x y : Float) → ne x x ≡ true → T (cost y) → T (fits binary32 x) → T (fits binary32 y) → same_bits x y ≡ false
+pub nan-bits : (x y : Float) → is_nan x ≡ true → T (cost y) → T (fits binary32 x) → T (fits binary32 y) → same_bits x y ≡ false
 unfolding cost
 nan-bits x y e h fx fy = go (same_bits x y) refl
   where
     go : (b : Bool) → same_bits x y ≡ b → b ≡ false
-    go true d =
-        let is-nan : x ≡ nan = differs_from_itself x (subst T (sym e) tt) in
-        absurd (subst (λ (z : Float). T (cost z)) (sym (same_float fx fy d) ∙ is-nan) h)
+    go true d = absurd (subst (λ (z : Float). T (cost z)) (sym (same_float fx fy d) ∙ is-nan x e) h)
     go false d = refl
 
-pub same_bits_lem : (x y : Float) → to_bits binary32 x ≡ to_bits binary32 y → same_bits x y ≡ true
+same_bits_lem : (x y : Float) → to_bits binary32 x ≡ to_bits binary32 y → same_bits x y ≡ true
 unfolding same_bits
 same_bits_lem x y e = eq-eqb _ _ e
-
-pub other-bits : (x y : Float) → (to_bits binary32 x ≡ to_bits binary32 y → ⊥) → same_bits x y ≡ false
-unfolding same_bits
-other-bits x y e = ne_eqb _ _ e
 
 -- every price of a cluster is a cost
 pub row-cost : {configs : List ℕ} {symbols ready : List Float} {k : ℕ} → Row configs symbols ready k → (v : ℕ) → v ≤ 131071 → T (cost (cluster_price configs symbols k v))

@@ -1,7 +1,7 @@
 // Check 6 of a price book: the ready prices.
 #![tactic(auto)]
 
-ghost use Rattle.std.specs.Prelude.{◌≡◌, true, ℕ, ◌≤◌, ◌<◌, ◌+◌, ◌*◌, ◌%◌, ◌^◌, T, eqb, length};
+ghost use Rattle.std.specs.Prelude.{◌≡◌, true, ℕ, ◌≤◌, ◌<◌, ◌+◌, ◌*◌, ◌%◌, ◌^◌, T, length};
 ghost use Rattle.std.specs.Float.Ieee.{add};
 ghost use Rattle.std.specs.Float.{binary32};
 ghost use Rattle.costs.specs.Cost.{cost};
@@ -9,20 +9,13 @@ ghost use Rattle.prices.specs.Book.{at};
 ghost use Rattle.prices.specs.Checks.{each, symbol_price, same_bits, row_kept};
 ghost use Rattle.book_rows.specs.Row.{Row, above, line_kept, four_kept, line_four, run_kept, octave_kept, priced_octaves};
 
-// 0 where two floats have the same bits, else 1. A NaN has no bits of its own, and no price is one.
-pub fn differs(kept: f32, price: f32) -> u32
+// Whether two floats have the same bits. A NaN has no bits of its own, and no price is one.
+#[tactic(auto, unfolding(prices::specs::Checks::same_bits))]
+pub fn same_bits(kept: f32, price: f32) -> bool
     requires { T (cost price) }
-    ensures price_value { same_bits kept price ≡ eqb result 0 }
-    ensures upper_bound { result ≤ 1 }
+    ensures { result ≡ same_bits kept price }
 {
-    if kept != kept {
-        return 1;
-    }
-    if f32::to_bits(kept) == f32::to_bits(price) {
-        0
-    } else {
-        1
-    }
+    !kept.is_nan() && kept.to_bits() == price.to_bits()
 }
 
 // Whether `count` ready prices in a row are as many symbols' prices plus the extra bits. Failures are counted, so the loop has no early exit and is vectorised.
@@ -35,17 +28,15 @@ fn line_kept(
     extra: f32,
 ) -> bool
     requires count_bound { count ≤ 256 }
-    requires count_in_bounds { from + count ≤ length symbols.now }
-    requires count_in_bounds_2 { to + count ≤ length ready.now }
+    requires symbols_in_bounds { from + count ≤ length symbols.now }
+    requires ready_in_bounds { to + count ≤ length ready.now }
     requires by_index { (i : ℕ) → i < count → T (cost (add binary32 (at symbols.now (from + i)) extra)) }
     ensures { result ≡ each count (line_kept symbols.now ready.now from to extra) }
 {
     let mut bad: u32 = 0;
-    let mut i = 0;
-    while i < count {
+    for i in 0..count {
         let price = symbols[from + i] + extra;
-        bad += differs(ready[to + i], price);
-        i += 1;
+        bad += u32::from(!same_bits(ready[to + i], price));
     }
     bad == 0
 }
@@ -53,10 +44,10 @@ fn line_kept(
 // Whether four ready prices in a row are these. What equals a float above 0 has its bits, and `&` has no branch: so the four are compared at once.
 fn four_kept(ready: &[f32], to: usize, a: f32, b: f32, c: f32, d: f32) -> bool
     requires to_in_bounds { to + 4 ≤ length ready.now }
-    requires t { T (above a) }
-    requires t_2 { T (above b) }
-    requires t_3 { T (above c) }
-    requires t_4 { T (above d) }
+    requires a_above { T (above a) }
+    requires b_above { T (above b) }
+    requires c_above { T (above c) }
+    requires d_above { T (above d) }
     ensures { result ≡ four_kept ready.now to a b c d }
 {
     (ready[to] == a) & (ready[to + 1] == b) & (ready[to + 2] == c) & (ready[to + 3] == d)
@@ -65,15 +56,12 @@ fn four_kept(ready: &[f32], to: usize, a: f32, b: f32, c: f32, d: f32) -> bool
 // Whether ready prices, four after four, are two prices by turns.
 fn turns_kept(ready: &[f32], to: usize, fours: usize, a: f32, b: f32) -> bool
     requires fours_in_bounds { to + 4 * fours ≤ length ready.now }
-    requires t { T (above a) }
-    requires t_2 { T (above b) }
+    requires a_above { T (above a) }
+    requires b_above { T (above b) }
     ensures { result ≡ each fours (λ i. four_kept ready.now (to + 4 * i) a b a b) }
 {
-    let mut i = 0;
-    while i < fours {
-        if four_kept(ready, to + 4 * i, a, b, a, b) {
-            i += 1;
-        } else {
+    for i in 0..fours {
+        if !four_kept(ready, to + 4 * i, a, b, a, b) {
             return false;
         }
     }
@@ -96,16 +84,13 @@ fn lines_kept(
     requires by_index { (i : ℕ) → i < 4 * lines → T (above (add binary32 (at symbols.now (from + i)) extra)) }
     ensures { result ≡ each fours (λ i. line_four symbols.now ready.now (from + 4 * (i % lines)) (to + 4 * i) extra) }
 {
-    let mut i = 0;
-    while i < fours {
+    for i in 0..fours {
         let at = from + 4 * (i % lines);
         let a = symbols[at] + extra;
         let b = symbols[at + 1] + extra;
         let c = symbols[at + 2] + extra;
         let d = symbols[at + 3] + extra;
-        if four_kept(ready, to + 4 * i, a, b, c, d) {
-            i += 1;
-        } else {
+        if !four_kept(ready, to + 4 * i, a, b, c, d) {
             return false;
         }
     }
@@ -157,11 +142,8 @@ fn octave_kept(
     let runs = packing::power(m) as usize;
     let period = packing::power(l) as usize;
     let count = packing::power(l + bits) as usize;
-    let mut i = 0;
-    while i < runs {
-        if run_kept(symbols, ready, from + i * period, to + i * count, l, bits) {
-            i += 1;
-        } else {
+    for i in 0..runs {
+        if !run_kept(symbols, ready, from + i * period, to + i * count, l, bits) {
             return false;
         }
     }
@@ -172,10 +154,7 @@ fn octave_kept(
 fn priced_octaves(both: u32) -> u32
     ensures { result ≡ priced_octaves both }
 {
-    if both == 6 {
-        return 7;
-    }
-    8
+    if both == 6 { 7 } else { 8 }
 }
 
 // Check 6 for one cluster. Values with top bit n are 2^m runs: in a run all but the low bits of the symbol stay, and so do the extra bits.
@@ -187,21 +166,18 @@ fn row_kept(configs: &[u8], symbols: &[f32], ready: &[f32], cluster: usize) -> b
     let config = prices::config_of(configs, cluster);
     let m = config.msb_in_token;
     let l = config.lsb_in_token;
-    let mut n = config.split_exponent;
-    let small = packing::power(n) as usize;
+    let small = packing::power(config.split_exponent) as usize;
     if !line_kept(symbols, ready, 128 * cluster, 256 * cluster, small, 0.0) {
         return false;
     }
     let mut from = 128 * cluster + small;
     let end = priced_octaves(m + l);
-    while n < end {
+    for n in config.split_exponent..end {
         let to = 256 * cluster + packing::power(n) as usize;
-        if octave_kept(symbols, ready, from, to, m, l, n - m - l) {
-            from += packing::power(m + l) as usize;
-            n += 1;
-        } else {
+        if !octave_kept(symbols, ready, from, to, m, l, n - m - l) {
             return false;
         }
+        from += packing::power(m + l) as usize;
     }
     if end < 8 {
         let none = costs::infinity();
@@ -215,11 +191,8 @@ pub fn rows_kept(clusters: usize, configs: &[u8], symbols: &[f32], ready: &[f32]
     requires { (k : ℕ) → k < clusters → Row configs.now symbols.now ready.now k }
     ensures { result ≡ each clusters (row_kept configs.now symbols.now ready.now) }
 {
-    let mut k = 0;
-    while k < clusters {
-        if row_kept(configs, symbols, ready, k) {
-            k += 1;
-        } else {
+    for k in 0..clusters {
+        if !row_kept(configs, symbols, ready, k) {
             return false;
         }
     }

@@ -9,7 +9,7 @@ ghost use Rattle.book_build.specs.Prefix.{prefix_of, prefix_refusal, prefix_symb
 ghost use Rattle.ans_build.specs.Ans.{ans_refusal, ans_symbols};
 ghost use Rattle.c_book.specs.Prices.{PriceTold, PairTold};
 
-use c_answers::{tell_pair, tell_real};
+use c_answers::{tell, tell_pair};
 
 // The first of checks 1 to 6 that a book fails, or 0.
 #[unsafe(no_mangle)]
@@ -22,7 +22,7 @@ pub extern "C" fn rdoq_check_book(
 ) -> u32
     ensures { result ≡ book_refusal (book_of clusters map.now configs.now symbols.now ready.now) }
 {
-    book_calls::book::check_book(clusters, map, configs, symbols, ready)
+    refusals::code(book_calls::book::check_book(clusters, map, configs, symbols, ready))
 }
 
 // Writes every ready price of a book that passes checks 1 to 5.
@@ -37,7 +37,7 @@ pub extern "C" fn rdoq_fill_ready(
     ensures value { result ≡ fill_refusal (book_of clusters map.now configs.now symbols.now ready.old) }
     ensures ready_after { ready.new ≡ filled_ready (book_of clusters map.now configs.now symbols.now ready.old) }
 {
-    book_calls::book::fill_ready(clusters, map, configs, symbols, ready)
+    refusals::code(book_calls::book::fill_ready(clusters, map, configs, symbols, ready))
 }
 
 // Writes every symbol price of a prefix code.
@@ -52,7 +52,7 @@ pub extern "C" fn rdoq_prefix_symbol_bits(
     ensures value { result ≡ prefix_refusal (prefix_of clusters depths.now singles.now strict) symbols.old }
     ensures symbols_after { symbols.new ≡ prefix_symbols (prefix_of clusters depths.now singles.now strict) symbols.old }
 {
-    book_calls::book::prefix_symbol_bits(clusters, depths, singles, strict, symbols)
+    refusals::code(book_calls::book::prefix_symbol_bits(clusters, depths, singles, strict, symbols))
 }
 
 // Writes every symbol price of an ANS code.
@@ -61,7 +61,7 @@ pub extern "C" fn rdoq_ans_symbol_bits(clusters: u32, freqs: &[u16], symbols: &m
     ensures value { result ≡ ans_refusal clusters freqs.now symbols.old }
     ensures symbols_after { symbols.new ≡ ans_symbols clusters freqs.now symbols.old }
 {
-    book_calls::book::ans_symbol_bits(clusters, freqs, symbols)
+    refusals::code(book_calls::book::ans_symbol_bits(clusters, freqs, symbols))
 }
 
 // Writes the price of a value in a context.
@@ -81,7 +81,7 @@ pub extern "C" fn rdoq_token_bits(
     let answer = book_calls::book::token_bits(
         clusters, map, configs, symbols, ready, context, value,
     );
-    tell_real(answer, bits)
+    tell(answer, bits)
 }
 
 // Writes the prices of a value in a context and the next one.

@@ -1,13 +1,12 @@
 -- What the exported call over a group returns, and what the caller's variable and every lent buffer hold afterwards. Assumes nothing.
 use Rattle.std.specs.Prelude.{ℕ, ◌≤◌, ◌≡◌, cond, List, leb, Float}
 use Rattle.block.specs.Outcome.{Lent}
-use Rattle.c_named.specs.Named.{search_named}
+use Rattle.searches.specs.Named.{search_named}
 use Rattle.group_run.specs.Block.{Numbers, Room, lent_with}
 use Rattle.group_run.specs.Demand as Demand
 use Rattle.group_run.specs.Demand.{settled_in}
 use Rattle.group_run.specs.Run.{Run, group_outcome}
-use Rattle.group_run.specs.declared.Group.{Group}
-use Rattle.group_run.specs.declared.Group.TheVariants.{Settled, Stopped}
+use Rattle.group_run.specs.Group.{Group, Settled, Stopped}
 use Rattle.prices.specs.Book.{Book}
 
 -- the code, the number of settled blocks, and the buffers

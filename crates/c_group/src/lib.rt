@@ -4,27 +4,27 @@
 ghost use Rattle.std.specs.Prelude.{◌≡◌};
 ghost use Rattle.block.specs.Outcome.{lent_of};
 ghost use Rattle.group_run.specs.Demand.{settled_in};
+ghost use Rattle.group_run.specs.Group.{group_of};
 ghost use Rattle.prices.specs.Book.{book_of};
 ghost use Rattle.c_group.specs.Group.{Promised, code_of, reply_of};
 
-use c_named::{NO_SEARCH, named};
-use group_run::Group;
+use group_run::Answer;
+use price_view::PriceView;
+use searches::Search;
 
 // Writes how many blocks are settled, and returns 0 or the refusal.
-fn tell_group(answer: Group, settled: &mut u32) -> u32
-    ensures { (result ≡ code_of answer) × (settled.new ≡ settled_in answer) }
+#[tactic(auto, unfolding(crate::specs::Group::code_of, group_run::specs::Demand::settled_in))]
+fn tell_group(answer: Answer, settled: &mut u32) -> u32
+    ensures { (result ≡ code_of (group_of answer)) × (settled.new ≡ settled_in (group_of answer)) }
 {
     match answer {
-        Group::Settled(number) => {
+        Ok(number) => {
             *settled = number;
             0
         }
-        Group::Stopped {
-            refusal,
-            settled: number,
-        } => {
-            *settled = number;
-            refusal
+        Err(stopped) => {
+            *settled = stopped.settled;
+            stopped.refusal.number()
         }
     }
 }
@@ -54,26 +54,22 @@ pub extern "C" fn rdoq_group(
         (record { choices = choices.old; row_a = row_a.old; row_b = row_b.old })
         (reply_of result settled.new (lent_of levels.new choices.new row_a.new row_b.new)) }
 {
-    if search > 3 {
-        *settled = 0;
-        return NO_SEARCH;
-    }
-    let answer = group_calls::rdoq_group(
-        named(search),
+    let search = match Search::try_from(search) {
+        Ok(search) => search,
+        Err(refusal) => {
+            *settled = 0;
+            return refusal.number();
+        }
+    };
+    let view = PriceView {
         clusters,
         map,
         configs,
         symbols,
         ready,
-        blocks,
-        settings,
-        scans,
-        sources,
-        inv_qms,
-        levels,
-        choices,
-        row_a,
-        row_b,
+    };
+    let answer = group_calls::rdoq_group(
+        search, &view, blocks, settings, scans, sources, inv_qms, levels, choices, row_a, row_b,
     );
     tell_group(answer, settled)
 }

@@ -6,8 +6,8 @@ use borrow.Author.Tests.{eqb-false}
 use lib.Dec.{T, eqb}
 use lib.Ieee.{Float, le}
 use Rattle.block.specs.Block.{Block, covered, input_remaining}
-use Rattle.block.specs.declared.Answer.{Answer}
-use Rattle.block.specs.declared.Answer.TheVariants.{Cost, Refused}
+use Rattle.block.specs.Answer.{Answer}
+use Rattle.block.specs.Answer.{Cost, Refused}
 use Rattle.costs.specs.Cost.{cost as is_cost}
 use Rattle.input_cost.specs.Input as Input
 use Rattle.input_cost.specs.Input.{input_refusal, input_cost, input_answer, NoLess}

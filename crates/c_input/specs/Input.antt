@@ -3,8 +3,8 @@ use Rattle.std.specs.Prelude.{ℕ, ◌≡◌, List, T, ℤ, Float}
 use Rattle.std.specs.Float.Ieee.{le}
 use Rattle.block.specs.Block.{Block, with_levels, covered}
 use Rattle.block.specs.Outcome.{Lent}
-use Rattle.block.specs.declared.Answer.{Answer}
-use Rattle.block.specs.declared.Answer.TheVariants.{Cost}
+use Rattle.block.specs.Answer.{Answer}
+use Rattle.block.specs.Answer.{Cost}
 use Rattle.costs.specs.Cost.{cost as is_cost}
 use Rattle.input_cost.specs.Input.{input_refusal, input_answer, AtLambda}
 use Rattle.prices.specs.Book.{Book}

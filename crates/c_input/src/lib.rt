@@ -7,8 +7,9 @@ ghost use Rattle.c_answers.specs.Parts.{shape_of, settings_of, bias_of};
 ghost use Rattle.c_input.specs.Input.{reply_of, Promised};
 
 use bias::DequantBias;
-use block::Shape;
+use block::{BlockData, Shape};
 use c_answers::tell_answer;
+use price_view::PriceView;
 use weights::Settings;
 
 // Writes what the levels cost as they stand, and how many of them are nonzero.
@@ -45,13 +46,15 @@ pub extern "C" fn rdoq_input_cost(
         scan.now source.now inv_qm.now levels.now)
         cost.old count.old (reply_of result cost.new count.new) }
 {
-    let answer = input_cost::rdoq_input_cost(
+    let view = PriceView {
         clusters,
         map,
         configs,
         symbols,
         ready,
-        Shape {
+    };
+    let block = BlockData {
+        shape: Shape {
             cx,
             cy,
             strategy,
@@ -59,18 +62,21 @@ pub extern "C" fn rdoq_input_cost(
             qf_hi,
             predicted,
         },
-        Settings {
+        settings: Settings {
             channel_weight,
             lambda,
             penalty,
             distance,
         },
-        DequantBias { one, numerator },
+        bias: DequantBias { one, numerator },
         scale,
         scan,
         source,
         inv_qm,
-        levels,
-    );
-    tell_answer(answer, cost, count)
+    };
+    tell_answer(
+        input_cost::rdoq_input_cost(&view, &block, levels),
+        cost,
+        count,
+    )
 }

@@ -6,20 +6,21 @@ ghost use Rattle.token_calls.specs.Contexts.{block_context_reply, non_zero_conte
 ghost use Rattle.level_calls.specs.Dequant.{level_reply};
 ghost use Rattle.token_calls.specs.Tokens.{pack_reply, split_reply};
 ghost use Rattle.level_calls.specs.Weighing.{lambda_reply, chroma_reply, distortion_reply, window_reply};
+ghost use Rattle.refusals.specs.Numbers.{code_of};
 ghost use Rattle.c_answers.specs.Parts.{bias_of, config_of};
-ghost use Rattle.c_answers.specs.Told.{number_code, number_after, real_code, real_after, token_code, symbol_after, extra_after, bits_after, lengths_code, length_after, restoring_after};
+ghost use Rattle.c_answers.specs.Told.{after, symbol_after, extra_after, bits_after, length_after, restoring_after};
 
 use bias::DequantBias;
-use c_answers::{tell_lengths, tell_number, tell_real, tell_token};
+use c_answers::{tell, tell_lengths, tell_token};
 use packing::HybridUintConfig;
 
 // Writes the packed form of a level.
 #[unsafe(no_mangle)]
 pub extern "C" fn rdoq_pack_signed(level: i32, packed: &mut u32) -> u32
-    ensures value { result ≡ number_code (pack_reply level) }
-    ensures packed_after { packed.new ≡ number_after (pack_reply level) packed.old }
+    ensures value { result ≡ code_of (pack_reply level) }
+    ensures packed_after { packed.new ≡ after (pack_reply level) packed.old }
 {
-    tell_number(token_calls::tokens::pack_signed(level), packed)
+    tell(token_calls::tokens::pack_signed(level), packed)
 }
 
 // Writes the symbol of a value under a configuration, how many extra bits it has, and the bits.
@@ -33,7 +34,7 @@ pub extern "C" fn rdoq_uint_encode_with_config(
     extra_bits: &mut u32,
     bits: &mut u32,
 ) -> u32
-    ensures value { result ≡ token_code (split_reply value (config_of split_exponent msb_in_token lsb_in_token)) }
+    ensures value { result ≡ code_of (split_reply value (config_of split_exponent msb_in_token lsb_in_token)) }
     ensures symbol_after { symbol.new ≡ symbol_after (split_reply value (config_of split_exponent msb_in_token lsb_in_token)) symbol.old }
     ensures extra_bits_after { extra_bits.new ≡ extra_after (split_reply value (config_of split_exponent msb_in_token lsb_in_token)) extra_bits.old }
     ensures bits_after { bits.new ≡ bits_after (split_reply value (config_of split_exponent msb_in_token lsb_in_token)) bits.old }
@@ -55,10 +56,10 @@ pub extern "C" fn rdoq_fine_block_context(
     qf_hi: bool,
     context: &mut u32,
 ) -> u32
-    ensures value { result ≡ number_code (block_context_reply channel strategy qf_hi) }
-    ensures context_after { context.new ≡ number_after (block_context_reply channel strategy qf_hi) context.old }
+    ensures value { result ≡ code_of (block_context_reply channel strategy qf_hi) }
+    ensures context_after { context.new ≡ after (block_context_reply channel strategy qf_hi) context.old }
 {
-    tell_number(
+    tell(
         token_calls::contexts::fine_block_context(channel, strategy, qf_hi),
         context,
     )
@@ -71,10 +72,10 @@ pub extern "C" fn rdoq_fine_non_zero_context(
     fine_block_ctx: u32,
     context: &mut u32,
 ) -> u32
-    ensures value { result ≡ number_code (non_zero_context_reply non_zeros fine_block_ctx) }
-    ensures context_after { context.new ≡ number_after (non_zero_context_reply non_zeros fine_block_ctx) context.old }
+    ensures value { result ≡ code_of (non_zero_context_reply non_zeros fine_block_ctx) }
+    ensures context_after { context.new ≡ after (non_zero_context_reply non_zeros fine_block_ctx) context.old }
 {
-    tell_number(
+    tell(
         token_calls::contexts::fine_non_zero_context(non_zeros, fine_block_ctx),
         context,
     )
@@ -86,10 +87,10 @@ pub extern "C" fn rdoq_fine_zero_density_contexts_offset(
     fine_block_ctx: u32,
     offset: &mut u32,
 ) -> u32
-    ensures value { result ≡ number_code (offset_reply fine_block_ctx) }
-    ensures offset_after { offset.new ≡ number_after (offset_reply fine_block_ctx) offset.old }
+    ensures value { result ≡ code_of (offset_reply fine_block_ctx) }
+    ensures offset_after { offset.new ≡ after (offset_reply fine_block_ctx) offset.old }
 {
-    tell_number(
+    tell(
         token_calls::contexts::fine_zero_density_contexts_offset(fine_block_ctx),
         offset,
     )
@@ -104,10 +105,10 @@ pub extern "C" fn rdoq_zero_density_context(
     prev: u32,
     context: &mut u32,
 ) -> u32
-    ensures value { result ≡ number_code (zero_density_reply covered_blocks nonzeros_left k prev) }
-    ensures context_after { context.new ≡ number_after (zero_density_reply covered_blocks nonzeros_left k prev) context.old }
+    ensures value { result ≡ code_of (zero_density_reply covered_blocks nonzeros_left k prev) }
+    ensures context_after { context.new ≡ after (zero_density_reply covered_blocks nonzeros_left k prev) context.old }
 {
-    tell_number(
+    tell(
         token_calls::contexts::zero_density_context(nonzeros_left, k, covered_blocks, prev),
         context,
     )
@@ -121,10 +122,10 @@ pub extern "C" fn rdoq_zero_density_context_8x8(
     prev: u32,
     context: &mut u32,
 ) -> u32
-    ensures value { result ≡ number_code (zero_density_reply 1 nonzeros_left k prev) }
-    ensures context_after { context.new ≡ number_after (zero_density_reply 1 nonzeros_left k prev) context.old }
+    ensures value { result ≡ code_of (zero_density_reply 1 nonzeros_left k prev) }
+    ensures context_after { context.new ≡ after (zero_density_reply 1 nonzeros_left k prev) context.old }
 {
-    tell_number(
+    tell(
         token_calls::contexts::zero_density_context_8x8(nonzeros_left, k, prev),
         context,
     )
@@ -133,10 +134,10 @@ pub extern "C" fn rdoq_zero_density_context_8x8(
 // Writes the biased level.
 #[unsafe(no_mangle)]
 pub extern "C" fn rdoq_level(one: f32, numerator: f32, quant: i32, level: &mut f32) -> u32
-    ensures value { result ≡ real_code (level_reply (bias_of one numerator) quant) }
-    ensures level_after { level.new ≡ real_after (level_reply (bias_of one numerator) quant) level.old }
+    ensures value { result ≡ code_of (level_reply (bias_of one numerator) quant) }
+    ensures level_after { level.new ≡ after (level_reply (bias_of one numerator) quant) level.old }
 {
-    tell_real(
+    tell(
         level_calls::dequant::level(DequantBias { one, numerator }, quant),
         level,
     )
@@ -145,10 +146,10 @@ pub extern "C" fn rdoq_level(one: f32, numerator: f32, quant: i32, level: &mut f
 // Writes lambda.
 #[unsafe(no_mangle)]
 pub extern "C" fn rdoq_lambda(rd: f32, tuning: f32, ratio: f32, lambda: &mut f32) -> u32
-    ensures value { result ≡ real_code (lambda_reply rd tuning ratio) }
-    ensures lambda_after { lambda.new ≡ real_after (lambda_reply rd tuning ratio) lambda.old }
+    ensures value { result ≡ code_of (lambda_reply rd tuning ratio) }
+    ensures lambda_after { lambda.new ≡ after (lambda_reply rd tuning ratio) lambda.old }
 {
-    tell_real(
+    tell(
         level_calls::weighing::rdoq_lambda(rd, tuning, ratio),
         lambda,
     )
@@ -157,10 +158,10 @@ pub extern "C" fn rdoq_lambda(rd: f32, tuning: f32, ratio: f32, lambda: &mut f32
 // Writes the multiplier of chroma distortion.
 #[unsafe(no_mangle)]
 pub extern "C" fn rdoq_chroma_rdoq_weight(distance: f32, weight: &mut f32) -> u32
-    ensures value { result ≡ real_code (chroma_reply distance) }
-    ensures weight_after { weight.new ≡ real_after (chroma_reply distance) weight.old }
+    ensures value { result ≡ code_of (chroma_reply distance) }
+    ensures weight_after { weight.new ≡ after (chroma_reply distance) weight.old }
 {
-    tell_real(level_calls::weighing::chroma_rdoq_weight(distance), weight)
+    tell(level_calls::weighing::chroma_rdoq_weight(distance), weight)
 }
 
 // Writes the weight of a position in a window.
@@ -171,10 +172,10 @@ pub extern "C" fn rdoq_distortion_weight(
     distance: f32,
     weight: &mut f32,
 ) -> u32
-    ensures value { result ≡ real_code (distortion_reply window_index window_len distance) }
-    ensures weight_after { weight.new ≡ real_after (distortion_reply window_index window_len distance) weight.old }
+    ensures value { result ≡ code_of (distortion_reply window_index window_len distance) }
+    ensures weight_after { weight.new ≡ after (distortion_reply window_index window_len distance) weight.old }
 {
-    tell_real(
+    tell(
         level_calls::weighing::rdoq_distortion_weight(window_index, window_len, distance),
         weight,
     )
@@ -187,7 +188,7 @@ pub extern "C" fn rdoq_window_len(
     length: &mut usize,
     restoring: &mut usize,
 ) -> u32
-    ensures value { result ≡ lengths_code (window_reply covered_blocks) }
+    ensures value { result ≡ code_of (window_reply covered_blocks) }
     ensures length_after { length.new ≡ length_after (window_reply covered_blocks) length.old }
     ensures restoring_after { restoring.new ≡ restoring_after (window_reply covered_blocks) restoring.old }
 {

@@ -1,8 +1,8 @@
 -- What an exported search returns, and what every lent variable and buffer holds afterwards. Assumes nothing.
-use Rattle.std.specs.Prelude.{ℕ, cond, eqb, leb, Float}
+use Rattle.std.specs.Prelude.{ℕ, cond, leb, Float}
 use Rattle.block.specs.Outcome.{Lent, Result}
+use Rattle.searches.specs.Named.{search_named}
 use Rattle.searches.specs.declared.Search.{Search}
-use Rattle.searches.specs.declared.Search.TheVariants.{Greedy, Beam, Trellis, Unfactored}
 use Rattle.c_answers.specs.Told.{answer_code, cost_after, count_after}
 
 -- the code, the caller's two variables, and the buffers
@@ -14,10 +14,6 @@ pub record Reply : Type 0 where
 
 abbrev pub reply_of : ℕ → Float → ℕ → Lent → Reply
 reply_of code cost count lent = record { code = code; cost = cost; count = count; lent = lent }
-
--- the search that a number from 0 to 3 names
-unfoldable pub search_named : ℕ → Search
-search_named n = cond (eqb n 0) Greedy (cond (eqb n 1) Beam (cond (eqb n 2) Trellis Unfactored))
 
 -- an outcome as it is told over the variables' old values
 unfoldable pub told : Result → Float → ℕ → Reply

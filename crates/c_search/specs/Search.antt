@@ -3,10 +3,11 @@ use Rattle.std.specs.Prelude.{ℕ, ◌≤◌, ◌≡◌, Float}
 use Rattle.block.specs.Block.{Block, covered}
 use Rattle.block.specs.Outcome.{Lent, Result}
 use Rattle.prices.specs.Book.{Book}
+use Rattle.searches.specs.Named.{search_named}
 use Rattle.searches.specs.Outcome.{Demanded, search_outcome}
 use Rattle.searches.specs.declared.Search.{Search}
 use Rattle.weights.specs.Window.{window_of}
-use Rattle.c_named.specs.Named.{Reply, search_named, named_reply}
+use Rattle.c_named.specs.Named.{Reply, named_reply}
 
 -- a search of document 01's window, w the half-width of its band
 abbrev pub outcome_named : ℕ → Book → Block → Lent → Search → Result

@@ -4,11 +4,11 @@ ghost use Rattle.std.specs.Prelude.{◌≡◌};
 ghost use Rattle.c_answers.specs.Told.{listed_code, levels_after, listed_count_after};
 ghost use Rattle.level_calls.specs.Levels.{candidates_reply};
 
-use answers::answer::OUTSIDE;
-use c_answers::tell_number;
+use refusals::Refusal;
 
 // Writes the levels that may be picked for a coefficient, and how many there are. Past the count stands 0, or where the level may be restored the current level.
 // Asks for room for five levels.
+#[tactic(auto, unfolding(c_answers::specs::Told::listed_code, c_answers::specs::Told::levels_after, c_answers::specs::Told::listed_count_after))]
 #[unsafe(no_mangle)]
 pub extern "C" fn rdoq_candidates(
     ideal: f32,
@@ -22,18 +22,14 @@ pub extern "C" fn rdoq_candidates(
     ensures count_after { count.new ≡ listed_count_after (candidates_reply ideal current restore) levels.old count.old }
 {
     if levels.len() != 5 {
-        return OUTSIDE;
+        return Refusal::Domain.number();
     }
-    let found = level_calls::levels::rdoq_candidates(ideal, current, restore);
-    let five = found.levels;
-    let answer = found.answer;
-    let code = tell_number(answer, count);
-    if code == 0 {
-        levels[0] = five[0];
-        levels[1] = five[1];
-        levels[2] = five[2];
-        levels[3] = five[3];
-        levels[4] = five[4];
+    match level_calls::levels::rdoq_candidates(ideal, current, restore) {
+        Ok(found) => {
+            levels.copy_from_slice(&found.levels);
+            *count = found.count as u32;
+            0
+        }
+        Err(refusal) => refusal.number(),
     }
-    code
 }

@@ -11,9 +11,11 @@ ghost use Rattle.c_named.specs.Named.{reply_of};
 ghost use Rattle.c_search.specs.Search.{Promised};
 
 use bias::DequantBias;
-use block::Shape;
+use block::{BlockData, Shape};
 use c_answers::tell_answer;
-use weights::{SearchSettings, Settings};
+use price_view::PriceView;
+use searches::Search;
+use weights::Settings;
 
 // Re-picks the levels of a block: 0 is greedy, 1 the beam, 2 the trellis, 3 the trellis by the unfactored walk.
 #[unsafe(no_mangle)]
@@ -55,17 +57,19 @@ pub extern "C" fn rdoq_block(
         (lent_of levels.old choices.old row_a.old row_b.old) cost.old count.old
         (reply_of result cost.new count.new (lent_of levels.new choices.new row_a.new row_b.new)) }
 {
-    if search > 3 {
-        return c_named::NO_SEARCH;
-    }
-    let answer = searches::rdoq_block(
-        c_named::named(search),
+    let search = match Search::try_from(search) {
+        Ok(search) => search,
+        Err(refusal) => return refusal.number(),
+    };
+    let view = PriceView {
         clusters,
         map,
         configs,
         symbols,
         ready,
-        Shape {
+    };
+    let block = BlockData {
+        shape: Shape {
             cx,
             cy,
             strategy,
@@ -73,24 +77,20 @@ pub extern "C" fn rdoq_block(
             qf_hi,
             predicted,
         },
-        SearchSettings {
-            weighing: Settings {
-                channel_weight,
-                lambda,
-                penalty,
-                distance,
-            },
-            half_width,
+        settings: Settings {
+            channel_weight,
+            lambda,
+            penalty,
+            distance,
         },
-        DequantBias { one, numerator },
+        bias: DequantBias { one, numerator },
         scale,
         scan,
         source,
         inv_qm,
-        levels,
-        choices,
-        row_a,
-        row_b,
+    };
+    let answer = searches::rdoq_block(
+        search, &view, &block, half_width, levels, choices, row_a, row_b,
     );
     tell_answer(answer, cost, count)
 }

@@ -2,12 +2,13 @@
 use Rattle.std.specs.Prelude.{ℕ, ◌≤◌, ◌≡◌, true, cond, Float}
 use Rattle.block.specs.Band.{half_width}
 use Rattle.block.specs.Block.{Block}
-use Rattle.block.specs.Outcome.{Lent, Result}
+use Rattle.block.specs.Outcome.{Lent}
 use Rattle.prices.specs.Book.{Book}
+use Rattle.searches.specs.Named.{search_named}
 use Rattle.searches.specs.Outcome.{Demanded}
 use Rattle.searches.specs.declared.Search.{Search}
 use Rattle.small.specs.Small.{check32, small_window, small_outcome}
-use Rattle.c_named.specs.Named.{Reply, reply_of, search_named, named_reply}
+use Rattle.c_named.specs.Named.{Reply, reply_of, named_reply}
 
 -- more than two covered blocks get 32 before the search's number is looked at, and nothing changes
 unfoldable pub small_reply : ℕ → Book → Block → Lent → Float → ℕ → Reply

@@ -9,8 +9,11 @@ ghost use Rattle.c_named.specs.Named.{reply_of};
 ghost use Rattle.c_small.specs.Small.{Promised};
 
 use bias::DequantBias;
-use block::Shape;
+use block::{BlockData, Shape};
 use c_answers::tell_answer;
+use price_view::PriceView;
+use refusals::Refusal;
+use searches::Search;
 use weights::Settings;
 
 // Re-picks the levels of a block of one or two covered blocks: 0 is greedy, 1 the beam, 2 the trellis, 3 the trellis by the unfactored walk.
@@ -52,20 +55,23 @@ pub extern "C" fn rdoq_small_block(
         (lent_of levels.old choices.old row_a.old row_b.old) cost.old count.old
         (reply_of result cost.new count.new (lent_of levels.new choices.new row_a.new row_b.new)) }
 {
+    // before the search's number is looked at
     if !small::is_small(cx, cy) {
-        return small::NOT_SMALL;
+        return Refusal::NotSmall.number();
     }
-    if search > 3 {
-        return c_named::NO_SEARCH;
-    }
-    let answer = small::rdoq_small_block(
-        c_named::named(search),
+    let search = match Search::try_from(search) {
+        Ok(search) => search,
+        Err(refusal) => return refusal.number(),
+    };
+    let view = PriceView {
         clusters,
         map,
         configs,
         symbols,
         ready,
-        Shape {
+    };
+    let block = BlockData {
+        shape: Shape {
             cx,
             cy,
             strategy,
@@ -73,21 +79,18 @@ pub extern "C" fn rdoq_small_block(
             qf_hi,
             predicted,
         },
-        Settings {
+        settings: Settings {
             channel_weight,
             lambda,
             penalty,
             distance,
         },
-        DequantBias { one, numerator },
+        bias: DequantBias { one, numerator },
         scale,
         scan,
         source,
         inv_qm,
-        levels,
-        choices,
-        row_a,
-        row_b,
-    );
+    };
+    let answer = small::rdoq_small_block(search, &view, &block, levels, choices, row_a, row_b);
     tell_answer(answer, cost, count)
 }

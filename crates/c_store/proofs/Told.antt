@@ -9,8 +9,7 @@ use lib.Dec.{eqb}
 use lib.ListN.{length, take}
 use Rattle.store_map.specs.Map.{Reply, reply}
 use Rattle.store_map.specs.Store.{Store, run_in, read_refusal}
-use Rattle.store_calls.specs.Calls.{Read, length_reply, told}
-use Rattle.store_calls.specs.declared.store.Length.{Length}
+use Rattle.store_calls.specs.Calls.{Length, Read, length_reply, told}
 use Rattle.c_store.specs.Told.{ReadTold, length_code, length_after}
 
 code-reply : (n size : ℕ) → length_code (length_reply n size) ≡ n

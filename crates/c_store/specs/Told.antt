@@ -3,8 +3,7 @@ use Rattle.std.specs.Prelude.{ℕ, ◌≡◌, cond, List, [], eqb, length, take}
 use Rattle.store_map.specs.Map.{reply}
 use Rattle.store_map.specs.Map as Map
 use Rattle.store_map.specs.Store.{Store, run_in, read_refusal, read_tokens, Kept}
-use Rattle.store_calls.specs.declared.store.Length.{Length}
-use Rattle.store_calls.specs.declared.store.Length.TheVariants.{Value, Refused}
+use Rattle.store_calls.specs.Calls.{Length, Value, Refused}
 
 unfoldable pub length_code : Length → ℕ
 length_code (Value n) = 0

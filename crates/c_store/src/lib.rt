@@ -3,22 +3,23 @@
 
 ghost use Rattle.std.specs.Prelude.{◌≡◌};
 ghost use Rattle.store_map.specs.Store.{store_of};
-ghost use Rattle.store_calls.specs.Calls.{Put, Dropped};
+ghost use Rattle.store_calls.specs.Calls.{Put, Dropped, length_of};
 ghost use Rattle.c_store.specs.Told.{ReadTold, length_code, length_after};
 
-use store_calls::store::Length;
+use refusals::Refusal;
 
 // The code of a reader's answer. Writes the length.
-fn tell_length(answer: Length, out: &mut usize) -> u32
-    ensures value { result ≡ length_code answer }
-    ensures out_after { out.new ≡ length_after answer out.old }
+#[tactic(auto, unfolding(crate::specs::Told::length_code, crate::specs::Told::length_after))]
+fn tell_length(answer: Result<usize, Refusal>, out: &mut usize) -> u32
+    ensures value { result ≡ length_code (length_of answer) }
+    ensures out_after { out.new ≡ length_after (length_of answer) out.old }
 {
     match answer {
-        Length::Value(length) => {
+        Ok(length) => {
             *out = length;
             0
         }
-        Length::Refused(number) => number,
+        Err(refusal) => refusal.number(),
     }
 }
 
@@ -32,7 +33,7 @@ pub extern "C" fn rdoq_store_put(
 ) -> u32
     ensures { Put (store_of room.old rec.old) block tokens.now result (store_of room.new rec.new) }
 {
-    store_calls::store::put(room, rec, block, tokens)
+    refusals::code(store_calls::store::put(room, rec, block, tokens))
 }
 
 // Gives the room of a run back.
@@ -40,7 +41,7 @@ pub extern "C" fn rdoq_store_put(
 pub extern "C" fn rdoq_store_drop(room: &[u64], rec: &mut [u64], block: u32) -> u32
     ensures { Dropped (store_of room.now rec.old) block result (store_of room.now rec.new) }
 {
-    store_calls::store::drop(room, rec, block)
+    refusals::code(store_calls::store::drop(room, rec, block))
 }
 
 // Copies a run to the front of `tokens`, and writes its length.

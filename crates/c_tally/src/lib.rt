@@ -20,7 +20,8 @@ pub extern "C" fn rdoq_tally_add(
     ensures { outcome_of result (tally_of counts.new extra.new)
         ≡ added (coding_of clusters map.now configs.now) (tokens_of contexts.now values.now) (tally_of counts.old extra.old) }
 {
-    tally_calls::tally_add(clusters, map, configs, contexts, values, counts, extra)
+    let done = tally_calls::tally_add(clusters, map, configs, contexts, values, counts, extra);
+    refusals::code(done)
 }
 
 // Takes tokens out of a tally.
@@ -37,5 +38,6 @@ pub extern "C" fn rdoq_tally_remove(
     ensures { outcome_of result (tally_of counts.new extra.new)
         ≡ removed (coding_of clusters map.now configs.now) (tokens_of contexts.now values.now) (tally_of counts.old extra.old) }
 {
-    tally_calls::tally_remove(clusters, map, configs, contexts, values, counts, extra)
+    let done = tally_calls::tally_remove(clusters, map, configs, contexts, values, counts, extra);
+    refusals::code(done)
 }

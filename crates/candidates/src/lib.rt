@@ -17,20 +17,14 @@ pub struct Candidates {
 pub fn is_current(current: i32) -> bool
     ensures { result ≡ is_current current }
 {
-    if current < -32767 {
-        return false;
-    }
-    current <= 32767
+    -32767 <= current && current <= 32767
 }
 
 // An ideal from -32,767 to 32,767 and no NaN, as check 13 has it.
 pub fn is_ideal(ideal: f32) -> bool
     ensures { result ≡ is_ideal ideal }
 {
-    if -32767.0 <= ideal {
-        return ideal <= 32767.0;
-    }
-    false
+    -32767.0 <= ideal && ideal <= 32767.0
 }
 
 // The nearest whole number, halves away from zero.
@@ -52,20 +46,12 @@ pub fn round_half_away(x: f32) -> i32
 
 // Whether the ideal is so near to a whole number above 2.5 that the level stays.
 fn is_settled(ideal: f32, rounded: i32) -> bool
-    requires fact_1 { T (is_ideal ideal) }
-    requires fact_2 { rounded ≡ nearest_of ideal }
+    requires is_ideal { T (is_ideal ideal) }
+    requires is_rounding { rounded ≡ nearest_of ideal }
     ensures { result ≡ settled ideal }
 {
     let off = ideal - rounded as f32;
-    if off < 0.25 {
-        if -0.25 < off {
-            if 2.5 < ideal {
-                return true;
-            }
-            return ideal < -2.5;
-        }
-    }
-    false
+    2.5 < ideal.abs() && off.abs() < 0.25
 }
 
 // The current level, one step toward zero, then 0.
@@ -95,14 +81,12 @@ fn with_zero(current: i32, levels: &mut [i32; 5]) -> usize
 }
 
 // One level more behind the first `count`, unless it is 0 or the current one.
+#[tactic(auto, unfolding(crate::specs::Steps::offer))]
 fn offered(levels: &mut [i32; 5], count: usize, current: i32, level: i32) -> usize
     requires { count < 5 }
     ensures { in_array result levels.new ≡ offer (in_array count levels.old) current level }
 {
-    if level == 0 {
-        return count;
-    }
-    if level == current {
+    if level == 0 || level == current {
         return count;
     }
     levels[count] = level;
@@ -111,13 +95,13 @@ fn offered(levels: &mut [i32; 5], count: usize, current: i32, level: i32) -> usi
 
 // The current level, 0, the ideal's rounding and its neighbours.
 fn restored(ideal: f32, current: i32, levels: &mut [i32; 5]) -> usize
-    requires fact_1 { T (is_ideal ideal) }
-    requires fact_2 { T (is_current current) }
+    requires is_ideal { T (is_ideal ideal) }
+    requires is_current { T (is_current current) }
     ensures { in_array result levels.new ≡ filled current (restored_of ideal current) }
 {
     let r = round_half_away(ideal);
     if is_settled(ideal, r) {
-        *levels = [current, current, current, current, current];
+        *levels = [current; 5];
         return 1;
     }
     let first = with_zero(current, levels);
@@ -128,8 +112,8 @@ fn restored(ideal: f32, current: i32, levels: &mut [i32; 5]) -> usize
 
 // Lists the candidates for one coefficient, the current level first, and answers how many they are. In a lent array no search copies them.
 pub fn list_candidates(ideal: f32, current: i32, restore: bool, levels: &mut [i32; 5]) -> usize
-    requires fact_1 { T (is_ideal ideal) }
-    requires fact_2 { T (is_current current) }
+    requires is_ideal { T (is_ideal ideal) }
+    requires is_current { T (is_current current) }
     ensures { in_array result levels.new ≡ filled (filler current restore) (candidates_of ideal current restore) }
 {
     if restore {
@@ -141,8 +125,8 @@ pub fn list_candidates(ideal: f32, current: i32, restore: bool, levels: &mut [i3
 
 // The same, by value.
 pub fn rdoq_candidates(ideal: f32, current: i32, restore: bool) -> Candidates
-    requires fact_1 { T (is_ideal ideal) }
-    requires fact_2 { T (is_current current) }
+    requires is_ideal { T (is_ideal ideal) }
+    requires is_current { T (is_current current) }
     ensures { result ≡ filled (filler current restore) (candidates_of ideal current restore) }
 {
     let mut levels = [0i32; 5];

@@ -9,6 +9,7 @@ ghost use Rattle.block_tokens.specs.Writing.{outputs};
 
 use block::Shape;
 pub use block_tokens::Reply;
+use coding::code::Code;
 
 // Writes a block's tokens: the context of each, its symbol, the number of its extra bits, and these. 63c + 1 numbers are always room enough; nothing past the tokens
 // changes. 24: a level beyond ±32,768; 20: a value whose symbol is above 127; 23: an output too short.
@@ -28,13 +29,19 @@ pub fn write_tokens(
         (outputs contexts.old symbols.old extra_bits.old bits.old) result
         (outputs contexts.new symbols.new extra_bits.new bits.new) }
 {
-    let refusal = token_checks::check_lent(clusters, map, configs, shape, scan, levels);
-    if refusal != 0 {
-        return Reply::Refused(refusal);
+    match token_checks::check_lent(clusters, map, configs, shape, scan, levels) {
+        Ok(()) => {
+            let code = Code {
+                clusters,
+                map,
+                configs,
+            };
+            token_write::write_coded(
+                &code, shape, scan, levels, contexts, symbols, extra_bits, bits,
+            )
+        }
+        Err(refusal) => Reply::Refused(refusal.number()),
     }
-    token_write::write_coded(
-        map, configs, shape, scan, levels, contexts, symbols, extra_bits, bits,
-    )
 }
 
 // Restores the levels from scan position c on from the symbols and extra bits of exactly one block's tokens, 0 past the last token; the first c stay. 22: the lists
@@ -52,9 +59,15 @@ pub fn read_tokens(
 ) -> Reply
     ensures { Read (given_of clusters map.now configs.now shape scan.now) symbols.now bits.now levels.old result levels.new }
 {
-    let refusal = token_checks::check_lent(clusters, map, configs, shape, scan, levels);
-    if refusal != 0 {
-        return Reply::Refused(refusal);
+    match token_checks::check_lent(clusters, map, configs, shape, scan, levels) {
+        Ok(()) => {
+            let code = Code {
+                clusters,
+                map,
+                configs,
+            };
+            token_read::read_coded(&code, shape, scan, symbols, bits, levels)
+        }
+        Err(refusal) => Reply::Refused(refusal.number()),
     }
-    token_read::read_coded(map, configs, shape, scan, symbols, bits, levels)
 }

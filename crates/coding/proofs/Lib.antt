@@ -1,2 +1,1 @@
-mod Returns
 pub mod Passed

@@ -1,7 +1,7 @@
 -- What checks 1 to 4 leave a call with. Assumes nothing.
 use mathlib.Core.Path.{◌≡◌, refl}
 use mathlib.Core.Bool.{Bool, true, ◌&&◌}
-use Prim.Native.Nat.{ℕ, ◌*◌, ◌≤◌, ◌<◌}
+use Prim.Native.Nat.{◌*◌}
 use native.Mathlib.Omega.{arith}
 use borrow.Author.Tests.{eqb-true, leb-true, ltb-true}
 use lib.Dec.{eqb, leb, ltb}
@@ -10,9 +10,10 @@ use Rattle.laws.proofs.Refused.{passes-first}
 use Rattle.laws.proofs.Tests.{and_left, and_right}
 use Rattle.laws.specs.Refusals.{first_refused}
 use Rattle.prices.specs.Book.{cluster_valid}
-use Rattle.prices.specs.Checks.{each, map_below}
+use Rattle.prices.specs.Checks.{map_below}
 use Rattle.prices.proofs.Each.{each_below}
-use Rattle.coding.specs.Coding.{Coding, Codes, coding_checks}
+use Rattle.coding.specs.Coding.{Coding, Codes, Coded, coding_checks}
+use Rattle.coding.specs.declared.code.Code.{Code}
 
 module _ (k : Coding) (others : Bool) (ok : first_refused (coding_checks k others) 0 ≡ 0) where
   pub others-right : others ≡ true
@@ -37,3 +38,7 @@ module _ (k : Coding) (others : Bool) (ok : first_refused (coding_checks k other
         cluster = λ context h. ltb-true _ _ (each_below (λ i. ltb (get_or k.map i 0) k.clusters) (length k.map) t3.0 context (omega (arith, map-long)));
         valid = λ cluster h. each_below (cluster_valid k.configs) k.clusters t4.0 cluster h;
       }
+
+-- what a checked code is known by
+pub coded-in : (c : Code) → Coded c.map.now c.configs.now
+coded-in c = record { clusters = c.clusters; codes = c.codes }

@@ -3,21 +3,23 @@
 
 ghost use Rattle.std.specs.Prelude.{◌≡◌, ◌+◌, ◌≤◌, length};
 
-// The standard input and output.
+// Standard input and output.
 const STDIN_FILENO: i32 = 0;
 
 const STDOUT_FILENO: i32 = 1;
 
 // Of a line longer than 24 bytes only 25 are kept: it is of another form, whatever they are.
 fn keep(line: &mut [u8], n: usize, byte: u8) -> usize
-    requires { (25 ≤ length line.old) × (n ≤ 25) }
+    requires line_len { 25 ≤ length line.old }
+    requires within { n ≤ 25 }
     ensures { result ≤ 25 }
 {
     if n < 25 {
         line[n] = byte;
-        return n + 1;
+        n + 1
+    } else {
+        n
     }
-    n
 }
 
 // Where the next line is written: behind the others, or at the start once those are out.
@@ -27,9 +29,10 @@ fn make_room(out: &[u8], used: usize) -> usize
 {
     if out.len() - used < 31 {
         io::write_all(STDOUT_FILENO, &out[..used]);
-        return 0;
+        0
+    } else {
+        used
     }
-    used
 }
 
 // Prints the line into `out`; answers how much of `out` is used then.
@@ -52,17 +55,17 @@ fn take_byte(byte: u8, line: &mut [u8], out: &mut [u8], state: State) -> State
     requires { (25 ≤ length line.old) × ((31 ≤ length out.old) × ((state.n ≤ 25) × (state.used ≤ length out.old))) }
     ensures { (result.n ≤ 25) × (result.used ≤ length out.old) }
 {
-    let n = state.n;
-    let used = state.used;
-    if byte == 10 {
-        return State {
+    let State { n, used } = state;
+    if byte == b'\n' {
+        State {
             n: 0,
             used: end_line(line, n, out, used),
-        };
-    }
-    State {
-        n: keep(line, n, byte),
-        used,
+        }
+    } else {
+        State {
+            n: keep(line, n, byte),
+            used,
+        }
     }
 }
 
@@ -72,13 +75,10 @@ fn take_piece(piece: &[u8], line: &mut [u8], out: &mut [u8], held: usize) -> usi
     ensures { result ≤ 25 }
 {
     let mut state = State { n: held, used: 0 };
-    let mut i = 0;
-    while i < piece.len() {
-        state = take_byte(piece[i], line, out, state);
-        i += 1;
+    for &byte in piece {
+        state = take_byte(byte, line, out, state);
     }
-    let used = state.used;
-    io::write_all(STDOUT_FILENO, &out[..used]);
+    io::write_all(STDOUT_FILENO, &out[..state.used]);
     state.n
 }
 
@@ -88,14 +88,12 @@ fn main() {
     let mut line = [0u8; 25];
     let mut held: usize = 0;
     // A proved loop has to end, and nothing says that a file does: no run uses this number up.
-    let mut turns = u64::MAX;
-    while turns > 0 {
+    for _ in 0..u64::MAX {
         let n = io::read_full(STDIN_FILENO, &mut piece);
         if n == 0 {
             break;
         }
         held = take_piece(&piece[..n], &mut line, &mut out, held);
-        turns -= 1;
     }
     if held > 0 {
         let used = end_line(&line, held, &mut out, 0);

@@ -9,7 +9,7 @@ use mathlib.Core.List.{List, [], ◌∷◌, Memᴰ as Mem}
 use Prim.Native.Nat.{ℕ, zero, suc, ◌+◌, ◌*◌, ◌/◌, ◌≤◌, ◌<◌}
 use native.Mathlib.Omega.{arith}
 use native.Mathlib.Nat.{not-suc-le-zero, le_of_suc-le-suc, eq-or-lt_of_le}
-use borrow.Author.Tests.{eq-eqb, eqb-true, le-leb}
+use borrow.Author.Tests.{eqb-true, le-leb}
 use lib.Dec.{eqb, ltb}
 use lib.IntN.{ℤ}
 use lib.ListN.{length, length-set}
@@ -20,7 +20,7 @@ use Rattle.block.specs.Choice.{IsChoice}
 use Rattle.block.specs.Checks.{block_refusal, valid_width}
 use Rattle.block.specs.Cost.{first_prev}
 use Rattle.block.specs.Outcome.{RefusedKeeps}
-use Rattle.block.specs.declared.Answer.TheVariants.{Count, Refused}
+use Rattle.block.specs.Answer.{Refused}
 use Rattle.block_checks.specs.Passed.{Passed}
 use Rattle.candidates.proofs.Laws.{Listed, candidates-listed}
 use Rattle.greedy_cost.specs.Run.{run_start}

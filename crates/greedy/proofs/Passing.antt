@@ -19,7 +19,7 @@ use Rattle.block.specs.Band.{input_after}
 use Rattle.block.specs.Block.{Block, covered, input_at, input_remaining, nonzeros_among, candidates_at}
 use Rattle.greedy_cost.specs.Cost.{cost_of}
 use Rattle.greedy_cost.specs.Run.{none, run_start, zeros_from, Windowed}
-use Rattle.greedy_cost.proofs.Costing.{listed-length}
+use Rattle.steps.proofs.Listed.{listed-length}
 use Rattle.least_cost.specs.Position.{nz}
 use Rattle.least_cost.specs.Search.{holder}
 use Rattle.prices.specs.Book.{Book}

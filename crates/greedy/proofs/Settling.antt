@@ -1,5 +1,5 @@
 -- The pass over the whole window, and what the call answers. Assumes nothing.
-use mathlib.Core.Path.{◌≡◌, refl, sym, ap, ◌∙◌, subst⁻¹}
+use mathlib.Core.Path.{◌≡◌, refl, sym, ap, ◌∙◌}
 use mathlib.Core.Bool.{true}
 use mathlib.Core.List.{List}
 use Prim.Native.Nat.{ℕ, suc, ◌+◌, ◌-◌, ◌*◌, ◌≤◌, ◌<◌}
@@ -12,11 +12,8 @@ use lib.Ieee.{Float}
 use borrow.Author.Tests.{eq-eqb, ne_eqb}
 use Rattle.block.specs.Block.{Block, covered, input_at, input_remaining, ideal, nonzeros_among, with_levels}
 use Rattle.block.specs.Checks.{search_refusal, enough_room}
-use Rattle.block.specs.declared.Answer.TheVariants.{Count, Refused}
-use Rattle.block_checks.specs.Passed.{Passed}
-use Rattle.block_checks.proofs.Laws.{passed}
+use Rattle.block.specs.Answer.{Count, Refused}
 use Rattle.prices.specs.Book.{Book}
-use Rattle.prices.specs.Checks.{book_refusal}
 use Rattle.prices.proofs.Passed.{listed, by-lists}
 use Rattle.problem.proofs.Refusals.{searched}
 use Rattle.scan.specs.Scan.{Perm}
@@ -26,9 +23,8 @@ use Rattle.steps.proofs.Counting.{among-most}
 use Rattle.steps.proofs.Ordered.{among-split}
 use Rattle.steps.proofs.Plans.{planned-lists}
 use Rattle.search_checks.proofs.Refusing.{no_rows}
-use Rattle.steps.specs.Plan.{Planned, Coded, Lists}
+use Rattle.steps.specs.Plan.{Planned, Lists}
 use Rattle.steps.specs.declared.reading.Plan.{Plan}
-use Rattle.weights.specs.Window.{window_for}
 use Rattle.weights.specs.declared.Window.{Window}
 use Rattle.greedy.specs.declared.pass.Counts.{Counts}
 use Rattle.greedy.specs.Greedy.{settled_at, settled_from, greedy_levels, Outcome, outcome_of, searched_outcome, refusal, greedy_outcome}
@@ -156,13 +152,10 @@ settled-outcome v book {b} {p} {levels} {count} w ev el ec =
     let found : levels ≡ greedy_levels v book b = rw ev at el in
     rw (← found) (ap (λ (n : ℕ). outcome_of (Count n) levels) (ec ∙ rw w.covered_is))
 
-same-book : (w : ℕ) (v : Window) (book : Book) (b : Block) → refusal w v book b ≡ 0 → book ≡ listed book
-unfolding refusal
-same-book w v book b none = by-lists book (searched w v book b true none).0
-
-pub let-pass : (w : ℕ) (v : Window) (book : Book) (b : Block) → refusal w v book b ≡ 0 → {after : Outcome} → after ≡ searched_outcome v (listed book) b → after ≡ greedy_outcome w v book b
+-- a call whose checks pass answers as the search of the checked book does
+pub let-pass : (w : ℕ) (v : Window) (book : Book) (b : Block) → refusal w v book b ≡ 0 → {checked : Book} → checked ≡ book → {after : Outcome} → after ≡ searched_outcome v checked b → after ≡ greedy_outcome w v book b
 unfolding greedy_outcome
-let-pass w v book b none e = rw (eq-eqb (refusal w v book b) 0 none) (e ∙ ap (λ (k : Book). searched_outcome v k b) (sym (same-book w v book b none)))
+let-pass w v book b none same e = rw (eq-eqb (refusal w v book b) 0 none) (e ∙ ap (λ (k : Book). searched_outcome v k b) same)
 
 pub by-check : (w : ℕ) (v : Window) (book : Book) (b : Block) {n : ℕ} → n ≡ search_refusal w v book b (enough_room 0 0 v.length 0 0 0) → n ≡ refusal w v book b
 unfolding refusal

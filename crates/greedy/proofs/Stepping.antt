@@ -5,9 +5,9 @@ use Prim.Native.Nat.{ℕ, zero, suc, ◌+◌, ◌-◌, ◌*◌, ◌≤◌, ◌<�
 use native.Mathlib.Omega.{arith}
 use native.Mathlib.Nat.{le_refl}
 use lib.IntN.{ℤ}
-use lib.ListN.{length, get_or, set, length-set}
+use lib.ListN.{get_or, set, length-set}
 use lib.Ieee.{Float}
-use Rattle.block.specs.Block.{Block, covered, nonzeros_among}
+use Rattle.block.specs.Block.{Block, nonzeros_among}
 use Rattle.least_cost.specs.Position.{nz}
 use Rattle.prices.specs.Book.{Book}
 use Rattle.scan.specs.Scan.{Perm, level_at}

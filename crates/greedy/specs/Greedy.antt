@@ -7,8 +7,8 @@ use Rattle.block.specs.Block.{Block, with_levels, covered, input_at, input_remai
 use Rattle.block.specs.Checks.{search_refusal, valid_width}
 use Rattle.block.specs.Choice.{IsChoice}
 use Rattle.block.specs.Outcome.{RefusedKeeps}
-use Rattle.block.specs.declared.Answer.{Answer}
-use Rattle.block.specs.declared.Answer.TheVariants.{Count, Refused}
+use Rattle.block.specs.Answer.{Answer}
+use Rattle.block.specs.Answer.{Count, Refused}
 use Rattle.greedy_cost.specs.Cost.{cost_of}
 use Rattle.greedy_cost.specs.Run.{none, run_start, zeros_from}
 use Rattle.least_cost.specs.Position.{nz}

@@ -6,15 +6,16 @@ ghost use Rattle.block.specs.Block.{Block, covered as covered_by};
 ghost use Rattle.candidates.specs.Candidates.{is_current};
 ghost use Rattle.greedy_cost.specs.Run.{Windowed};
 ghost use Rattle.least_cost.specs.Position.{nz};
-ghost use Rattle.prices.specs.Book.{book_in};
-ghost use Rattle.prices.specs.Checks.{book_refusal};
+ghost use Rattle.prices.specs.Contents.{contents};
 ghost use Rattle.scan.specs.Scan.{Perm, level_at};
 ghost use Rattle.steps.specs.Plan.{Planned, Coded, Lists};
 ghost use Rattle.greedy.specs.Greedy.{front_of, run_of, chosen, settled_at, greedy_levels};
 ghost use Rattle.greedy.specs.Reading.{Fitting, Ready, count_from};
 
+use block::BlockData;
 use greedy_cost::cost::Around;
 use greedy_cost::{cost, run};
+use prices::book::PriceBook;
 use steps::reading::Plan;
 
 // The nonzero levels behind the position, and those of the whole block, from scan position c on.
@@ -51,92 +52,60 @@ fn front(scan: &[u32], levels: &[i32], covered: usize, i: usize) -> usize
 
 // The price of the zeros that a nonzero level would have coded in front of it.
 fn run_bits(
-    map: &[u8],
-    configs: &[u8],
-    symbols: &[f32],
-    ready: &[f32],
+    book: &PriceBook,
     plan: Plan,
     scan: &[u32],
     levels: &[i32],
     i: usize,
     later: usize,
 ) -> f32
-    requires ready_value { book_refusal (book_in map.now configs.now symbols.now ready.now) ≡ 0 }
     requires coded { Coded plan }
     requires windowed { Windowed plan.covered i scan.now levels.now }
     requires i_bound { plan.covered + i < 64 * plan.covered }
     ensures { (b : Block) → scan.now ≡ b.scan → levels.now ≡ b.levels → Planned b plan → later ≡ input_after b i
-        → result ≡ run_of (book_in map.now configs.now symbols.now ready.now) b i }
+        → result ≡ run_of (contents book.now) b i }
 {
     if later > 0 {
         return 0.0;
     }
     let start = run::run_start(scan, levels, plan.covered, i);
-    run::zeros(map, configs, symbols, ready, plan, start, i)
+    run::zeros(book, plan, start, i)
 }
 
 // The level that window position i takes.
 fn choice(
-    map: &[u8],
-    configs: &[u8],
-    symbols: &[f32],
-    ready: &[f32],
+    book: &PriceBook,
     plan: Plan,
-    scan: &[u32],
-    source: &[f32],
-    inv_qm: &[f32],
+    block: &BlockData,
     levels: &[i32],
     i: usize,
     counts: Counts,
 ) -> i32
-    requires ready_value { book_refusal (book_in map.now configs.now symbols.now ready.now) ≡ 0 }
     requires coded { Coded plan }
     requires fitting { Fitting plan }
-    requires ready { Ready plan scan.now source.now inv_qm.now levels.now (plan.covered + i + 1) }
+    requires ready { Ready plan block.now.scan.now block.now.source.now block.now.inv_qm.now levels.now (plan.covered + i + 1) }
     requires i_lt_length { i < plan.window.length }
-    requires later_value { (counts.later ≡ count_from scan.now levels.now plan.covered (plan.covered + i + 1)) × (counts.total ≡ count_from scan.now levels.now plan.covered plan.covered) }
-    ensures value { (b : Block) → Lists b scan.now source.now inv_qm.now levels.now → Planned b plan
-        → result ≡ chosen plan.window (book_in map.now configs.now symbols.now ready.now) b i }
+    requires later_value { (counts.later ≡ count_from block.now.scan.now levels.now plan.covered (plan.covered + i + 1)) × (counts.total ≡ count_from block.now.scan.now levels.now plan.covered plan.covered) }
+    ensures value { (b : Block) → Lists b block.now.scan.now block.now.source.now block.now.inv_qm.now levels.now → Planned b plan
+        → result ≡ chosen plan.window (contents book.now) b i }
     ensures t { T (is_level result) }
 {
     let mut offered = [0i32; 5];
-    let offer = plan.offer(scan, source, inv_qm, levels, i, &mut offered);
+    let offer = plan.offer(block, levels, i, &mut offered);
     let current = offer.level;
     if stays(offer.count, current, counts.later) {
         return current;
     }
     let place = plan.place(i, offer.ideal, current);
-    let front = front(scan, levels, plan.covered, i);
-    let run = run_bits(
-        map,
-        configs,
-        symbols,
-        ready,
-        plan,
-        scan,
-        levels,
-        i,
-        counts.later,
-    );
+    let front = front(block.scan, levels, plan.covered, i);
+    let run = run_bits(book, plan, block.scan, levels, i, counts.later);
     let around = Around {
         later: counts.later,
         others: counts.total - steps::nonzero(current),
         front,
         run,
     };
-    cost::cheapest(
-        map,
-        configs,
-        symbols,
-        ready,
-        plan,
-        place,
-        &offered,
-        offer.count,
-        i,
-        around,
-        current,
-    )
+    cost::cheapest(book, plan, place, &offered, offer.count, i, around, current)
 }
 
 // Writes the level at scan position k, and says whether the level that stood there is nonzero.
@@ -154,33 +123,25 @@ fn write(scan: &[u32], levels: &mut [i32], k: usize, level: i32) -> usize
 
 // Settles window position i.
 fn step(
-    map: &[u8],
-    configs: &[u8],
-    symbols: &[f32],
-    ready: &[f32],
+    book: &PriceBook,
     plan: Plan,
-    scan: &[u32],
-    source: &[f32],
-    inv_qm: &[f32],
+    block: &BlockData,
     levels: &mut [i32],
     i: usize,
     counts: Counts,
 ) -> Counts
-    requires ready_value { book_refusal (book_in map.now configs.now symbols.now ready.now) ≡ 0 }
     requires coded { Coded plan }
     requires fitting { Fitting plan }
-    requires ready { Ready plan scan.now source.now inv_qm.now levels.old (plan.covered + i + 1) }
+    requires ready { Ready plan block.now.scan.now block.now.source.now block.now.inv_qm.now levels.old (plan.covered + i + 1) }
     requires i_lt_length { i < plan.window.length }
-    requires later_value { (counts.later ≡ count_from scan.now levels.old plan.covered (plan.covered + i + 1)) × (counts.total ≡ count_from scan.now levels.old plan.covered plan.covered) }
-    ensures levels_after { (b : Block) → Lists b scan.now source.now inv_qm.now levels.old → Planned b plan
-        → levels.new ≡ settled_at plan.window (book_in map.now configs.now symbols.now ready.now) b i }
-    ensures ready_2 { Ready plan scan.now source.now inv_qm.now levels.new (plan.covered + i) }
-    ensures later_value_2 { (result.later ≡ count_from scan.now levels.new plan.covered (plan.covered + i)) × (result.total ≡ count_from scan.now levels.new plan.covered plan.covered) }
+    requires later_value { (counts.later ≡ count_from block.now.scan.now levels.old plan.covered (plan.covered + i + 1)) × (counts.total ≡ count_from block.now.scan.now levels.old plan.covered plan.covered) }
+    ensures levels_after { (b : Block) → Lists b block.now.scan.now block.now.source.now block.now.inv_qm.now levels.old → Planned b plan
+        → levels.new ≡ settled_at plan.window (contents book.now) b i }
+    ensures ready_2 { Ready plan block.now.scan.now block.now.source.now block.now.inv_qm.now levels.new (plan.covered + i) }
+    ensures later_value_2 { (result.later ≡ count_from block.now.scan.now levels.new plan.covered (plan.covered + i)) × (result.total ≡ count_from block.now.scan.now levels.new plan.covered plan.covered) }
 {
-    let level = choice(
-        map, configs, symbols, ready, plan, scan, source, inv_qm, levels, i, counts,
-    );
-    let before = write(scan, levels, plan.covered + i, level);
+    let level = choice(book, plan, block, levels, i, counts);
+    let before = write(block.scan, levels, plan.covered + i, level);
     let nonzero = steps::nonzero(level);
     Counts {
         later: counts.later + nonzero,
@@ -203,33 +164,18 @@ fn counts_of(scan: &[u32], levels: &[i32], covered: usize, window: usize) -> Cou
 }
 
 // The whole pass. The count of nonzero levels from scan position c on.
-pub(crate) fn settle(
-    map: &[u8],
-    configs: &[u8],
-    symbols: &[f32],
-    ready: &[f32],
-    plan: Plan,
-    scan: &[u32],
-    source: &[f32],
-    inv_qm: &[f32],
-    levels: &mut [i32],
-) -> usize
-    requires ready_value { book_refusal (book_in map.now configs.now symbols.now ready.now) ≡ 0 }
+pub(crate) fn settle(book: &PriceBook, plan: Plan, block: &BlockData, levels: &mut [i32]) -> usize
     requires coded { Coded plan }
     requires fitting { Fitting plan }
-    requires ready { Ready plan scan.now source.now inv_qm.now levels.old (64 * plan.covered) }
-    ensures levels_after { (b : Block) → Lists b scan.now source.now inv_qm.now levels.old → Planned b plan
-        → levels.new ≡ greedy_levels plan.window (book_in map.now configs.now symbols.now ready.now) b }
-    ensures value { result ≡ count_from scan.now levels.new plan.covered plan.covered }
+    requires ready { Ready plan block.now.scan.now block.now.source.now block.now.inv_qm.now levels.old (64 * plan.covered) }
+    ensures levels_after { (b : Block) → Lists b block.now.scan.now block.now.source.now block.now.inv_qm.now levels.old → Planned b plan
+        → levels.new ≡ greedy_levels plan.window (contents book.now) b }
+    ensures value { result ≡ count_from block.now.scan.now levels.new plan.covered plan.covered }
 {
     let window = plan.window;
-    let mut counts = counts_of(scan, levels, plan.covered, window.length);
-    let mut i = window.length;
-    while 0 < i {
-        i -= 1;
-        counts = step(
-            map, configs, symbols, ready, plan, scan, source, inv_qm, levels, i, counts,
-        );
+    let mut counts = counts_of(block.scan, levels, plan.covered, window.length);
+    for i in (0..window.length).rev() {
+        counts = step(book, plan, block, levels, i, counts);
     }
     counts.total
 }

@@ -3,45 +3,41 @@ use mathlib.Core.Path.{◌≡◌, refl, sym, ap, ◌∙◌}
 use mathlib.Core.Bool.{Bool, true, false, cond}
 use mathlib.Core.List.{List}
 use Prim.Native.Nat.{ℕ, suc, ◌+◌, ◌*◌, ◌/◌, ◌≤◌, ◌<◌}
-use native.Mathlib.Omega.{arith}
 use native.Mathlib.Numerals.{add-one}
-use lib.Dec.{T}
+use lib.Dec.{T, leb, lit≤}
 use lib.IntN.{ℤ, pos}
-use lib.ListN.{length, get_or, drop, length-take}
-use lib.Seq.{get_or-take, drop-cons, drop-length}
+use lib.ListN.{length, get_or, drop}
+use lib.Seq.{drop-cons, drop-length}
 use lib.Ieee.{Float, inf, lt, add, mul, binary32}
-use mir.Syntax.{w32}
-use mir.Val.{of_z, to_z}
-use borrow.Author.Tests.{eq-eqb, ne_eqb, le-leb, lt-leb}
+use borrow.Author.Tests.{eq-eqb, ne_eqb}
 use Rattle.bias.specs.Level.{is_level}
 use Rattle.block.specs.Block.{Block, covered}
 use Rattle.block.specs.Cost.{distortion, rate, token_price, first_prev, count_cost}
-use Rattle.candidates.specs.declared.Candidates.{Candidates}
 use Rattle.least_cost.specs.Position.{nz}
 use Rattle.least_cost.specs.Search.{holder}
 use Rattle.prices.specs.Book.{Book}
 use Rattle.steps.specs.Place.{distortion_at, rate_at, place_of}
 use Rattle.steps.specs.declared.Place.{Place}
-use Rattle.steps.specs.Plan.{Planned, Usable, listed}
+use Rattle.steps.specs.Plan.{Planned}
 use Rattle.steps.specs.declared.reading.Plan.{Plan}
 use Rattle.steps.proofs.Local.{rate-same}
-use Rattle.steps.proofs.Zero.{level-back}
-use Rattle.greedy_cost.specs.declared.cost.Best.{Best}
-use Rattle.greedy_cost.specs.Cost.{prev_of, bits_of, cost_of, considered}
+use Rattle.steps.specs.Best.{considered}
+use Rattle.steps.specs.declared.best.Best.{Best}
+use Rattle.greedy_cost.specs.Cost.{prev_of, bits_of, cost_of}
 
 -- ---- `prev`
 module _ (b : Block) (c i front count : ℕ) (e : c ≡ covered b) where
-  pub prev-few : i ≡ 0 → count ≤ 64 * c / 16 → 1 ≡ prev_of b i front count
+  pub prev-first : i ≡ 0 → cond (leb count (64 * c / 16)) 1 0 ≡ prev_of b i front count
   unfolding prev_of first_prev
-  prev-few first few = rw (eq-eqb i 0 first, ← e, le-leb count (64 * c / 16) few)
-
-  pub prev-many : i ≡ 0 → 64 * c / 16 < count → 0 ≡ prev_of b i front count
-  unfolding prev_of first_prev
-  prev-many first many = rw (eq-eqb i 0 first, ← e, lt-leb count (64 * c / 16) many)
+  prev-first first = rw (eq-eqb i 0 first, ← e)
 
   pub prev-front : (i ≡ 0 → ⊥) → front ≡ prev_of b i front count
   unfolding prev_of
   prev-front past = rw (ne_eqb i 0 past)
+
+pub flag-most : (t : Bool) → cond t 1 0 ≤ 1
+flag-most true = lit≤ tt
+flag-most false = lit≤ tt
 
 -- ---- bits
 module _ (book : Book) (b : Block) (plan : Plan) (i remaining prev : ℕ) (run : Float) (q q' : ℤ) (token : Float) (w : Planned b plan) (same : q' ≡ q) (some : remaining ≡ 0 → ⊥)
@@ -69,40 +65,22 @@ cost_is book b plan place i later others front n prev run d r bits cost q q' w e
     let rated : rate_at (place_of b plan.log2 i) q ≡ rate b i q = rate-same b plan.log2 i q in
     cc
 
--- ---- the candidates as a list
-module _ {c : Candidates} (u : Usable c) where
-  pub listed-length : length (listed c) ≡ c.count
-  listed-length = simp length-take (omega (arith, u.few, u.five))
-
-  pub usable-back : (j : ℕ) → j < c.count → to_z w32 (of_z w32 (get_or c.levels j (pos 0))) ≡ get_or c.levels j (pos 0)
-  usable-back j h = level-back _ (u.levels j h)
-
-  pub usable-level : (j : ℕ) → j < c.count → T (is_level (to_z w32 (of_z w32 (get_or c.levels j (pos 0)))))
-  usable-level j h = rw (usable-back j h) (u.levels j h)
-
-  -- the level that the code hands over is the listed one
-  pub usable-listed : (j : ℕ) → j < c.count → to_z w32 (of_z w32 (get_or c.levels j (pos 0))) ≡ get_or (listed c) j (pos 0)
-  usable-listed j h = usable-back j h ∙ sym (rw get_or-take)
-
-  pub listed_below : (j : ℕ) → j < c.count → j < length (listed c)
-  listed_below j h = rw listed-length h
-
 -- ---- the first least
-pub considered-level : (l : Best) (x : Float) (q : ℤ) → T (is_level l.level) → T (is_level q) → T (is_level (considered l x q).level)
+pub considered-level : (l : Best ℤ) (x : Float) (q : ℤ) → T (is_level l.choice) → T (is_level q) → T (is_level (considered l x q).choice)
 unfolding considered
 considered-level l x q h k = go (lt x l.cost)
   where
-    go : (t : Bool) → T (is_level (cond {A = Best} t (record { cost = x; level = q }) l).level)
+    go : (t : Bool) → T (is_level (cond {A = Best ℤ} t (record { cost = x; choice = q }) l).choice)
     go true = k
     go false = h
 
-pub holder-next : (g : ℤ → Float) (l : Best) (x : Float) (q : ℤ) (xs : List ℤ) (j : ℕ) → j < length xs → q ≡ get_or xs j (pos 0) → x ≡ g q
-    → holder g (considered l x q).cost (considered l x q).level (drop (j + 1) xs) ≡ holder g l.cost l.level (drop j xs)
+pub holder-next : (g : ℤ → Float) (l : Best ℤ) (x : Float) (q : ℤ) (xs : List ℤ) (j : ℕ) → j < length xs → q ≡ get_or xs j (pos 0) → x ≡ g q
+    → holder g (considered l x q).cost (considered l x q).choice (drop (j + 1) xs) ≡ holder g l.cost l.choice (drop j xs)
 unfolding holder considered
 holder-next g l x q xs j h e f = rw (drop-cons xs j (pos 0) h, add-one, ← e, f) (go (lt (g q) l.cost))
   where
-    go : (t : Bool) → holder g (cond {A = Best} t (record { cost = g q; level = q }) l).cost (cond {A = Best} t (record { cost = g q; level = q }) l).level (drop (suc j) xs)
-        ≡ holder g (cond t (g q) l.cost) (cond t q l.level) (drop (suc j) xs)
+    go : (t : Bool) → holder g (cond {A = Best ℤ} t (record { cost = g q; choice = q }) l).cost (cond {A = Best ℤ} t (record { cost = g q; choice = q }) l).choice (drop (suc j) xs)
+        ≡ holder g (cond t (g q) l.cost) (cond t q l.choice) (drop (suc j) xs)
     go true = refl
     go false = refl
 

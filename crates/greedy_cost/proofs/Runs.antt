@@ -1,5 +1,5 @@
 -- The run in front of a position, one level after the other. Assumes nothing.
-use mathlib.Core.Path.{◌≡◌, refl, sym, ap, ◌∙◌}
+use mathlib.Core.Path.{◌≡◌, refl, ◌∙◌}
 use mathlib.Core.List.{List}
 use Prim.Native.Nat.{ℕ, suc, ◌+◌, ◌-◌, ◌<◌}
 use native.Mathlib.Omega.{arith}
@@ -20,21 +20,13 @@ module _ (scan : List ℕ) (levels : List ℤ) (c : ℕ) where
   unfolding run_start
   start_first = refl
 
-  module _ (i : ℕ) (some : 0 < i) where
-    before : i ≡ suc (i - 1)
-    before = omega arith
+  pub start-here : (i : ℕ) → nz (level_at scan levels (c + i)) ≡ 1 → run_start scan levels c (i + 1) ≡ i + 1
+  unfolding run_start
+  start-here i e = rw (add-one, e)
 
-    pub start-here : nz (level_at scan levels (c + i - 1)) ≡ 1 → run_start scan levels c i ≡ i
-    unfolding run_start
-    start-here e =
-        let at : c + (i - 1) ≡ c + i - 1 = omega arith in
-        ap (run_start scan levels c) before ∙ rw (at, e) (sym before)
-
-    pub start-more : nz (level_at scan levels (c + i - 1)) ≡ 0 → run_start scan levels c i ≡ run_start scan levels c (i - 1)
-    unfolding run_start
-    start-more e =
-        let at : c + (i - 1) ≡ c + i - 1 = omega arith in
-        ap (run_start scan levels c) before ∙ rw (at, e)
+  pub start-more : (i : ℕ) → nz (level_at scan levels (c + i)) ≡ 0 → run_start scan levels c (i + 1) ≡ run_start scan levels c i
+  unfolding run_start
+  start-more i e = rw (add-one, e)
 
 pub zeros-next : (book : Book) (b : Block) (plan : Plan) (end j prev : ℕ) (sum token : Float) (q : ℤ) → Planned b plan → j < end → q ≡ pos 0 → token ≡ token_price book b 1 (plan.covered + j) prev q
     → zeros_from book b (end - (j + 1)) (j + 1) 0 (add binary32 sum token) ≡ zeros_from book b (end - j) j prev sum

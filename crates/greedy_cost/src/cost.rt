@@ -5,21 +5,15 @@ ghost use Rattle.bias.specs.Level.{is_level};
 ghost use Rattle.block.specs.Block.{Block};
 ghost use Rattle.candidates.specs.Candidates.{in_array};
 ghost use Rattle.least_cost.specs.Search.{holder};
-ghost use Rattle.prices.specs.Book.{book_in};
-ghost use Rattle.prices.specs.Checks.{book_refusal};
+ghost use Rattle.prices.specs.Contents.{contents};
 ghost use Rattle.steps.specs.Place.{place_of};
 ghost use Rattle.steps.specs.Plan.{Planned, Coded, Usable, listed};
-ghost use Rattle.greedy_cost.specs.Cost.{prev_of, bits_of, cost_of, considered};
+ghost use Rattle.greedy_cost.specs.Cost.{prev_of, bits_of, cost_of};
 
+use prices::book::PriceBook;
 use steps::Place;
+use steps::best::Best;
 use steps::reading::Plan;
-
-// The cheapest candidate so far.
-#[derive(Clone, Copy)]
-pub struct Best {
-    pub cost: f32,
-    pub level: i32,
-}
 
 // What stands around a position: the nonzero levels behind it and of all others, whether the level in front is nonzero, and the
 // price of the run.
@@ -31,17 +25,6 @@ pub struct Around {
     pub run: f32,
 }
 
-impl Best {
-    fn consider(self, cost: f32, level: i32) -> Best
-        ensures { result ≡ considered self cost level }
-    {
-        if cost < self.cost {
-            return Best { cost, level };
-        }
-        self
-    }
-}
-
 // `prev` at window position i: the first position's follows the block's count.
 fn prev_at(covered: usize, i: usize, front: usize, count: usize) -> usize
     requires { (covered ≤ 1024) × (front ≤ 1) }
@@ -49,20 +32,14 @@ fn prev_at(covered: usize, i: usize, front: usize, count: usize) -> usize
     ensures upper_bound { result ≤ 1 }
 {
     if i == 0 {
-        if count <= 64 * covered / 16 {
-            return 1;
-        }
-        return 0;
+        return steps::tokens::first_prev(covered, count);
     }
     front
 }
 
 // The bits of a level, `remaining` counting it and all nonzero levels behind it.
 fn bits(
-    map: &[u8],
-    configs: &[u8],
-    symbols: &[f32],
-    ready: &[f32],
+    book: &PriceBook,
     plan: Plan,
     i: usize,
     remaining: usize,
@@ -70,26 +47,15 @@ fn bits(
     run: f32,
     level: i32,
 ) -> f32
-    requires ready_value { book_refusal (book_in map.now configs.now symbols.now ready.now) ≡ 0 }
     requires coded { Coded plan }
     requires i_bound { (remaining + (plan.covered + i) ≤ 64 * plan.covered) × (prev ≤ 1) }
     requires t { T (is_level level) }
-    ensures { (b : Block) → Planned b plan → result ≡ bits_of (book_in map.now configs.now symbols.now ready.now) b i remaining prev run level }
+    ensures { (b : Block) → Planned b plan → result ≡ bits_of (contents book.now) b i remaining prev run level }
 {
     if remaining == 0 {
         return 0.0;
     }
-    let token = steps::tokens::token_bits(
-        map,
-        configs,
-        symbols,
-        ready,
-        plan,
-        remaining,
-        plan.covered + i,
-        prev,
-        level,
-    );
+    let token = steps::tokens::token_bits(book, plan, remaining, plan.covered + i, prev, level);
     if level == 0 {
         return token;
     }
@@ -98,31 +64,24 @@ fn bits(
 
 // What a candidate costs.
 fn candidate_cost(
-    map: &[u8],
-    configs: &[u8],
-    symbols: &[f32],
-    ready: &[f32],
+    book: &PriceBook,
     plan: Plan,
     place: Place,
     i: usize,
     around: Around,
     level: i32,
 ) -> f32
-    requires ready_value { book_refusal (book_in map.now configs.now symbols.now ready.now) ≡ 0 }
     requires coded { Coded plan }
     requires i_bound { (around.later + 1 + (plan.covered + i) ≤ 64 * plan.covered) × ((around.others < 64 * plan.covered) × (around.front ≤ 1)) }
     requires t { T (is_level level) }
     ensures { (b : Block) → Planned b plan → place ≡ place_of b plan.log2 i
-        → result ≡ cost_of (book_in map.now configs.now symbols.now ready.now) b i around.later around.others around.front around.run level }
+        → result ≡ cost_of (contents book.now) b i around.later around.others around.front around.run level }
 {
     let nonzero = steps::nonzero(level);
     let count = around.others + nonzero;
     let prev = prev_at(plan.covered, i, around.front, count);
     let bits = bits(
-        map,
-        configs,
-        symbols,
-        ready,
+        book,
         plan,
         i,
         around.later + nonzero,
@@ -132,16 +91,13 @@ fn candidate_cost(
     );
     let distortion = place.distortion(level);
     let rated = place.rate(level) * bits;
-    let counted = steps::tokens::count_cost(map, configs, symbols, ready, plan, count);
+    let counted = steps::tokens::count_cost(book, plan, count);
     distortion + rated + counted
 }
 
 // The first of the cheapest candidates; the current level where no cost is finite.
 pub fn cheapest(
-    map: &[u8],
-    configs: &[u8],
-    symbols: &[f32],
-    ready: &[f32],
+    book: &PriceBook,
     plan: Plan,
     place: Place,
     levels: &[i32; 5],
@@ -150,25 +106,21 @@ pub fn cheapest(
     around: Around,
     current: i32,
 ) -> i32
-    requires ready_value { book_refusal (book_in map.now configs.now symbols.now ready.now) ≡ 0 }
     requires coded { Coded plan }
     requires i_bound { (around.later + 1 + (plan.covered + i) ≤ 64 * plan.covered) × ((around.others < 64 * plan.covered) × (around.front ≤ 1)) }
     requires usable { Usable (in_array count levels.now) }
     requires t { T (is_level current) }
     ensures value { (b : Block) → Planned b plan → place ≡ place_of b plan.log2 i
-        → result ≡ holder (cost_of (book_in map.now configs.now symbols.now ready.now) b i around.later around.others around.front around.run) (inf false) current (listed (in_array count levels.now)) }
-    ensures t_2 { T (is_level result) }
+        → result ≡ holder (cost_of (contents book.now) b i around.later around.others around.front around.run) (inf false) current (listed (in_array count levels.now)) }
+    ensures level_kept { T (is_level result) }
 {
     let mut best = Best {
         cost: costs::infinity(),
-        level: current,
+        choice: current,
     };
-    let mut j = 0;
-    while j < count {
-        let level = levels[j];
-        let cost = candidate_cost(map, configs, symbols, ready, plan, place, i, around, level);
+    for &level in &levels[..count] {
+        let cost = candidate_cost(book, plan, place, i, around, level);
         best = best.consider(cost, level);
-        j += 1;
     }
-    best.level
+    best.choice
 }

@@ -1,5 +1,5 @@
 -- A search of a part of the list's numbers leaves its levels in their place; of the block that the cells predict for, it is the list's next. Assumes nothing.
-use mathlib.Core.Path.{◌≡◌, sym, ap, ◌∙◌, subst, subst⁻¹}
+use mathlib.Core.Path.{◌≡◌, refl, sym, ap, ◌∙◌, subst, subst⁻¹}
 use mathlib.Core.List.{List, ◌++◌}
 use Prim.Native.Nat.{ℕ, ◌+◌, ◌-◌, ◌*◌, ◌≤◌}
 use native.Mathlib.Omega.{arith}
@@ -11,7 +11,9 @@ use Rattle.bias.specs.declared.DequantBias.{DequantBias}
 use Rattle.block.specs.Block as Block
 use Rattle.block.specs.Block.{Block, block_of}
 use Rattle.block.specs.Outcome.{Lent, Result, result_of}
-use Rattle.block.specs.declared.Answer.{Answer}
+use Rattle.std.specs.Prelude.{Option, Some, None, Ok}
+use Rattle.block.specs.Answer.{Answer, answer_of}
+use Rattle.block.specs.declared.Picked.{Picked}
 use Rattle.block.specs.declared.Shape.{Shape}
 use Rattle.group_cells.specs.Cells.{Counted, predicted}
 use Rattle.group_list.specs.Heads.{Head, covered}
@@ -33,9 +35,18 @@ part-result at n levels f {answer} {after} {choices} {row_a} {row_b} e =
     (rw (drop-drop n at levels) (ap (in_place at n levels) (e ∙ ap f k)))
 
 -- a result of a block's parts is the result of the parts that they are equal to
-pub of_parts : {X : Result} (F : Shape → Settings → DequantBias → Float → ℕ → Result) {shape shape' : Shape} {settings settings' : Settings} {bias bias' : DequantBias} {scale scale' : Float} {width width' : ℕ}
-    → X ≡ F shape settings bias scale width → shape ≡ shape' → settings ≡ settings' → bias ≡ bias' → scale ≡ scale' → width ≡ width' → X ≡ F shape' settings' bias' scale' width'
-of_parts F e a b c d w = rw (← a, ← b, ← c, ← d, ← w) e
+pub of_parts : {X : Result} (F : Shape → Settings → DequantBias → Result) {shape shape' : Shape} {settings settings' : Settings} {bias bias' : DequantBias}
+    → X ≡ F shape settings bias → shape ≡ shape' → settings ≡ settings' → bias ≡ bias' → X ≡ F shape' settings' bias'
+of_parts F e a b c = rw (← a, ← b, ← c) e
+
+-- what was picked is counted
+counted : (cost : Option Float) (n : ℕ) → count_in (answer_of (Ok (record { cost = cost; count = n }))) ≡ n
+unfolding count_in
+counted (Some cost) n = refl
+counted None n = refl
+
+pub count-picked : (picked : Picked) → count_in (answer_of (Ok picked)) ≡ picked.count
+count-picked picked = counted picked.cost picked.count
 
 -- what a search of a part counts
 pub count-few : (w : ℕ) (s : Search) (book : Book) (b : Block) (l : Lent) → l.levels ≡ b.levels → (at n : ℕ) (levels : List ℤ) {X : Result}

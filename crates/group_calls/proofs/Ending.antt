@@ -9,14 +9,16 @@ use Rattle.group_list.specs.Checks.{list_refusal}
 use Rattle.group_run.specs.Block.{Numbers, Room, lent_with}
 use Rattle.group_run.specs.Demand.{Promised}
 use Rattle.group_run.specs.Run.{Run, group_refusal}
-use Rattle.group_run.specs.declared.Group.{Group}
-use Rattle.group_run.specs.declared.Group.TheVariants.{Stopped}
+use Rattle.group_run.specs.Group.{Group, Stopped}
 use Rattle.group_run.proofs.Main.{promised, refused-before, runs}
 use Rattle.prices.specs.Book.{Book}
 use Rattle.prices.specs.Checks.{book_refusal}
-use Rattle.prices.proofs.Passed.{listed, by-lists}
 use Rattle.searches.specs.declared.Search.{Search}
 use Rattle.group_calls.specs.Ran.{Ran}
+
+-- a book is as its checked book is
+pub passes : {checked book : Book} → checked ≡ book → book_refusal checked ≡ 0 → book_refusal book ≡ 0
+passes e f = rw (← e) f
 
 module _ (book : Book) (words : List ℕ) (reals : List Float) where
   by-book : (book_refusal book ≡ 0 → ⊥) → group_refusal book words reals ≡ book_refusal book
@@ -40,8 +42,8 @@ module _ (s : Search) (book : Book) (words : List ℕ) (reals : List Float) (g :
     pub refused-by-list : {n : ℕ} → n ≡ list_refusal words reals → (n ≡ 0 → ⊥) → Promised s book words reals g room (Stopped n 0) (lent_with g.levels room)
     refused-by-list e k = refused-by (e ∙ sym (by-list book words reals ok)) k
 
-    pub ran : list_refusal words reals ≡ 0 → {answer : Group} {after : Lent} → Ran s (listed book) words reals g room answer after → Promised s book words reals g room answer after
-    ran none {answer} {after} Q =
-        let R = subst⁻¹ (λ (k : Book). Ran s k words reals g room answer after) (by-lists book ok) Q in
+    pub ran : list_refusal words reals ≡ 0 → {answer : Group} {after : Lent} → {checked : Book} → checked ≡ book → Ran s checked words reals g room answer after → Promised s book words reals g room answer after
+    ran none {answer} {after} e Q =
+        let R = subst⁻¹ (λ (k : Book). Ran s k words reals g room answer after) (sym e) Q in
         let o = runs s book words reals g room (by-list book words reals ok ∙ none) in
         promised s book words reals g room (sym R.answer_is ∙ sym (ap (λ (r : Run). r.answer) o)) (sym R.lent_is ∙ sym (ap (λ (r : Run). r.lent) o))

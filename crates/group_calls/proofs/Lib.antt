@@ -1,3 +1,4 @@
+mod Telling
 mod Loop
 mod Looping
 mod Ending

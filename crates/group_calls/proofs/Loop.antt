@@ -18,7 +18,7 @@ use Rattle.prices.specs.Book.{Book}
 use Rattle.searches.specs.declared.Search.{Search}
 use Rattle.group_run.specs.Block.{Numbers, Room, room_of, lent_with, size, enough, rest, block_at, searched, settles, refusal_in}
 use Rattle.group_run.specs.Run.{Done, done_with, counted, Run, ended, followed, run}
-use Rattle.group_run.specs.declared.Group.TheVariants.{Settled, Stopped}
+use Rattle.group_run.specs.Group.{Settled, Stopped}
 use Rattle.group_run.proofs.Running.{enough-of, searched-length}
 
 -- the levels with those that a search of the n from `at` on left

@@ -1,14 +1,15 @@
 -- What the loop over a list keeps, and how it ends. Assumes nothing.
-use mathlib.Core.Path.{◌≡◌, refl, sym, ap, ◌∙◌, subst, subst⁻¹}
+use mathlib.Core.Path.{◌≡◌, sym, ap, ◌∙◌, subst, subst⁻¹}
 use mathlib.Core.Bool.{Bool, true, false, ◌&&◌}
 use mathlib.Core.List.{List, [], ◌∷◌}
 use Prim.Native.Nat.{ℕ, ◌+◌, ◌-◌, ◌*◌, ◌≤◌, ◌<◌}
 use native.Mathlib.Omega.{arith}
 use lib.Dec.{leb}
 use lib.IntN.{ℤ}
-use lib.ListN.{length, drop, length-drop}
+use lib.ListN.{length, length-drop}
 use lib.Ieee.{Float}
-use Rattle.block.specs.Outcome.{Lent, Result}
+use Rattle.block.specs.Answer.{Refused}
+use Rattle.block.specs.Outcome.{Result}
 use Rattle.group_block.specs.Part.{in_place, numbers_from, Stepped}
 use Rattle.group_cells.specs.Cells.{Counted}
 use Rattle.group_cells.specs.Grid.{Grid}
@@ -18,7 +19,7 @@ use Rattle.group_list.specs.Heads.{head_at, heads_of, blocks_in, PlacedAt}
 use Rattle.group_list.proofs.Channel.{heads-pass, list-passes}
 use Rattle.group_list.proofs.Order.{placed_at, blocks-number, floats-within}
 use Rattle.group_run.specs.Block.{Numbers, Room, room_of, lent_with, size, enough, searched, settles, count_in, refusal_in}
-use Rattle.group_run.specs.declared.Group.TheVariants.{Settled, Stopped}
+use Rattle.group_run.specs.Group.{Settled, Stopped}
 use Rattle.group_run.proofs.Running.{enough-of}
 use Rattle.prices.specs.Book.{Book}
 use Rattle.searches.specs.declared.Search.{Search}
@@ -99,6 +100,10 @@ module _ (s : Search) (book : Book) (words : List ℕ) (reals : List Float) (g :
               λ off.
               let k = so-far-stops s book words reals g room₀ L.done i at levels room L.so_far more is-enough off in
               record { answer_is = k.0; lent_is = k.1 })
+
+          pub looping-refused : {refusal settled : ℕ} → after.answer ≡ Refused refusal → settled ≡ i → Ran s book words reals g room₀ (Stopped refusal settled) after.lent
+          unfolding settles refusal_in
+          looping-refused refused j = rw (j, ap refusal_in (sym refused)) (looping-stops (ap settles refused))
 
           pub looping-more : settles after.answer ≡ true → Looping (i + 1) (at + n) after.lent.levels (room_of after.lent) cells'
           looping-more yes' =

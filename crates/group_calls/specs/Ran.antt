@@ -4,7 +4,7 @@ use Rattle.block.specs.Outcome.{Lent}
 use Rattle.group_list.specs.Heads.{heads_of}
 use Rattle.group_run.specs.Block.{Numbers, Room}
 use Rattle.group_run.specs.Run.{run}
-use Rattle.group_run.specs.declared.Group.{Group}
+use Rattle.group_run.specs.Group.{Group}
 use Rattle.prices.specs.Book.{Book}
 use Rattle.searches.specs.declared.Search.{Search}
 

@@ -6,11 +6,15 @@ ghost use Rattle.block.specs.Outcome.{lent_of};
 ghost use Rattle.group_cells.specs.Grid.{Grid};
 ghost use Rattle.group_list.specs.Checks.{list_refusal};
 ghost use Rattle.group_run.specs.Demand.{Promised};
-ghost use Rattle.prices.specs.Book.{book_of, book_in};
-ghost use Rattle.prices.specs.Checks.{book_refusal};
+ghost use Rattle.group_run.specs.Group.{group_of};
+ghost use Rattle.price_view.specs.View.{book_in};
+ghost use Rattle.prices.specs.Contents.{contents};
 ghost use Rattle.group_calls.specs.Ran.{Ran};
 
-use group_run::Group;
+use group_run::{Answer, Stopped};
+use price_view::PriceView;
+use prices::book::PriceBook;
+use refusals::Refusal;
 use searches::Search;
 
 // Check 8: whether n numbers are left of each of four lists, behind the first `at`.
@@ -18,25 +22,13 @@ fn enough(at: usize, n: usize, scans: usize, sources: usize, inv_qms: usize, lev
     requires { (at ≤ scans) × ((at ≤ sources) × ((at ≤ inv_qms) × (at ≤ levels))) }
     ensures { result ≡ (leb n (scans - at) && (leb n (sources - at) && (leb n (inv_qms - at) && leb n (levels - at)))) }
 {
-    if n > scans - at {
-        return false;
-    }
-    if n > sources - at {
-        return false;
-    }
-    if n > inv_qms - at {
-        return false;
-    }
-    n <= levels - at
+    n <= scans - at && n <= sources - at && n <= inv_qms - at && n <= levels - at
 }
 
-// Settles the blocks of a list that passed its checks, with a book that did, until one is refused. `cells` are all 0.
+// Settles the blocks of a list that passed its checks until one is refused. `cells` are all 0.
 fn run_list(
     search: Search,
-    map: &[u8],
-    configs: &[u8],
-    symbols: &[f32],
-    ready: &[f32],
+    book: &PriceBook,
     words: &[u32],
     reals: &[f32],
     scans: &[u32],
@@ -47,18 +39,18 @@ fn run_list(
     row_a: &mut [f32],
     row_b: &mut [f32],
     cells: &mut [u8],
-) -> Group
-    requires ready_value { book_refusal (book_in map.now configs.now symbols.now ready.now) ≡ 0 }
-    requires reals_value { (list_refusal words.now reals.now ≡ 0) × Grid [] cells.old }
-    ensures { Ran search (book_in map.now configs.now symbols.now ready.now) words.now reals.now
+) -> Answer
+    requires list_passed { list_refusal words.now reals.now ≡ 0 }
+    requires cells_empty { Grid [] cells.old }
+    ensures { Ran search (contents book.now) words.now reals.now
         (record { scans = scans.now; sources = sources.now; inverses = inv_qms.now; levels = levels.old })
         (record { choices = choices.old; row_a = row_a.old; row_b = row_b.old })
-        result (lent_of levels.new choices.new row_a.new row_b.new) }
+        (group_of result) (lent_of levels.new choices.new row_a.new row_b.new) }
 {
     let blocks = words.len() / 8;
-    let mut i: usize = 0;
-    let mut at: usize = 0;
-    while i < blocks {
+    let mut at = 0;
+    for i in 0..blocks {
+        let settled = i as u32;
         let n = group_counts::size_at(words, i);
         if !enough(
             at,
@@ -68,36 +60,36 @@ fn run_list(
             inv_qms.len(),
             levels.len(),
         ) {
-            return Group::Stopped {
-                refusal: 8,
-                settled: i as u32,
-            };
+            return Err(Stopped {
+                refusal: Refusal::BlockLength,
+                settled,
+            });
         }
-        let answer = group_block::settle_block(
-            search, map, configs, symbols, ready, words, reals, scans, sources, inv_qms, levels,
-            choices, row_a, row_b, cells, i, at, n,
-        );
-        if !group_block::answer::settles(answer) {
-            return Group::Stopped {
-                refusal: group_block::answer::refusal_in(answer),
-                settled: i as u32,
-            };
-        }
+        group_block::settle_block(
+            search, book, words, reals, scans, sources, inv_qms, levels, choices, row_a, row_b,
+            cells, i, at, n,
+        )
+        .map_err(|refusal| Stopped { refusal, settled })?;
         at += n;
-        i += 1;
     }
-    Group::Settled(i as u32)
+    Ok(blocks as u32)
+}
+
+// A list that is refused before any search.
+fn before_any(refusal: Refusal) -> Stopped
+    ensures { result ≡ record { refusal = refusal; settled = 0 } }
+{
+    Stopped {
+        refusal,
+        settled: 0,
+    }
 }
 
 // Searches every block of a group's list, in order. `blocks` has eight words a block: x, y, cx, cy, strategy, channel, quant class (0 is low), half-width; `settings` seven
 // floats: channel weight, lambda, penalty, distance, the bias `one` and its numerator, scale. The four lists of numbers lie block after block. The book is checked once.
 pub fn rdoq_group(
     search: Search,
-    clusters: u32,
-    map: &[u8],
-    configs: &[u8],
-    symbols: &[f32],
-    ready: &[f32],
+    view: &PriceView,
     blocks: &[u32],
     settings: &[f32],
     scans: &[u32],
@@ -107,29 +99,17 @@ pub fn rdoq_group(
     choices: &mut [u8],
     row_a: &mut [f32],
     row_b: &mut [f32],
-) -> Group
-    ensures { Promised search (book_of clusters map.now configs.now symbols.now ready.now) blocks.now settings.now
+) -> Answer
+    ensures { Promised search (book_in view.now) blocks.now settings.now
         (record { scans = scans.now; sources = sources.now; inverses = inv_qms.now; levels = levels.old })
         (record { choices = choices.old; row_a = row_a.old; row_b = row_b.old })
-        result (lent_of levels.new choices.new row_a.new row_b.new) }
+        (group_of result) (lent_of levels.new choices.new row_a.new row_b.new) }
 {
-    let book = book_checks::check_book(clusters, map, configs, symbols, ready);
-    if book != 0 {
-        return Group::Stopped {
-            refusal: book,
-            settled: 0,
-        };
-    }
-    let list = group_checks::check_list(blocks, settings);
-    if list != 0 {
-        return Group::Stopped {
-            refusal: list,
-            settled: 0,
-        };
-    }
+    let book = book_checks::checked_book(view).map_err(before_any)?;
+    group_checks::check_list(blocks, settings).map_err(before_any)?;
     let mut cells = [0u8; 3072];
     run_list(
-        search, map, configs, symbols, ready, blocks, settings, scans, sources, inv_qms, levels,
-        choices, row_a, row_b, &mut cells,
+        search, &book, blocks, settings, scans, sources, inv_qms, levels, choices, row_a, row_b,
+        &mut cells,
     )
 }

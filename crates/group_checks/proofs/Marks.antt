@@ -1,14 +1,17 @@
 -- Marked cells stand for the blocks that came before: what is read off them is what checks 30 and 31 say. Assumes nothing.
 use mathlib.Core.Path.{◌≡◌, refl, sym, ap, ap₂, ◌∙◌}
-use mathlib.Core.Bool.{Bool, true, false, not, cond, ◌&&◌, ◌||◌, and_assoc, and-true, and-false}
+use mathlib.Core.Bool.{Bool, true, false, not, cond, ◌&&◌, ◌||◌, and_assoc, and-true}
 use mathlib.Core.List.{List, [], ◌∷◌}
-use Prim.Native.Nat.{ℕ, suc, ◌+◌, ◌-◌, ◌*◌, ◌%◌, ◌≤◌, ◌<◌}
+use Prim.Native.Nat.{ℕ, zero, suc, ◌+◌, ◌-◌, ◌*◌, ◌≤◌, ◌<◌}
 use native.Mathlib.Nat.{sub-zero}
 use native.Mathlib.Numerals.{add-one}
 use native.Mathlib.Omega.{arith}
-use borrow.Author.Tests.{leb-true, eq-eqb, ne_eqb}
+use borrow.Author.Tests.{leb-true}
 use lib.Dec.{eqb, leb}
-use lib.ListN.{length, get_or, replicate, length-replicate, get_or-replicate}
+use lib.ListN.{length, get_or, take, drop, replicate, length-replicate, get_or-replicate}
+use Rattle.std.specs.List.{list_all}
+use Rattle.std.proofs.lemmas.List.{get_or-drop, length-drop}
+use Rattle.std.proofs.lemmas.List.Folds.{list_all_more}
 use lib.Ieee.{Float}
 use Rattle.group_cells.specs.Grid.{at, Written}
 use Rattle.group_list.specs.Checks.{in_order, Tested, sided, channelled, inside, apart, neighboured, whole_blocks, heads_refusal, list_refusal}
@@ -22,17 +25,16 @@ use Rattle.prices.proofs.Each.{each_same, each_more, each-fails}
 use Rattle.group_checks.specs.Marks.{Marks, free_row, free_cells, near_left, near_up, PlacesRefused}
 
 -- ---- rows and rectangles that are free
-pub row-free-none : (marks : List ℕ) (start : ℕ) → free_row marks start 0 ≡ true
-unfolding free_row each
-row-free-none marks start = refl
+each-of-all : (p : ℕ → Bool) (xs : List ℕ) (n : ℕ) → n ≤ length xs → list_all p (take n xs) ≡ each n (λ i. p (get_or xs i 0))
+unfolding each
+each-of-all p xs zero h = refl
+each-of-all p xs (suc n) h = rw (← add-one n) (list_all_more p xs n 0 h) ∙ ap (λ (t : Bool). t && p (get_or xs n 0)) (each-of-all p xs n (omega arith))
 
-pub row-free-more : (marks : List ℕ) (start i : ℕ) → free_row marks start i ≡ true → get_or marks (start + i) 0 ≡ 0 → free_row marks start (i + 1) ≡ true
+pub row-free : (marks : List ℕ) (start n : ℕ) → start + n ≤ length marks → list_all (λ m. eqb m 0) (take (start + n - start) (drop start marks)) ≡ free_row marks start n
 unfolding free_row
-row-free-more marks start i e z = each_more (λ k. eqb (get_or marks (start + k) 0) 0) i e (eq-eqb (get_or marks (start + i) 0) 0 z)
-
-pub row-taken : (marks : List ℕ) (start n i : ℕ) → i < n → (get_or marks (start + i) 0 ≡ 0 → ⊥) → free_row marks start n ≡ false
-unfolding free_row
-row-taken marks start n i h z = each-fails (λ k. eqb (get_or marks (start + k) 0) 0) n i h (ne_eqb (get_or marks (start + i) 0) 0 z)
+row-free marks start n h =
+    let same : start + n - start ≡ n = omega arith in
+    rw same (each-of-all (λ m. eqb m 0) (drop start marks) n (omega (arith, length-drop start marks)) ∙ each_same _ _ n (λ i l. rw (get_or-drop start marks i 0)))
 
 module _ (marks : List ℕ) (channel x y cx : ℕ) where
   pub cells-free-none : free_cells marks channel x y cx 0 ≡ true
@@ -150,21 +152,6 @@ module _ (p : List Head → Head → Bool) (words : List ℕ) where
       let n : blocks_in words - i ≡ 0 = omega arith in
       sym (and-true t) ∙ sym (ap (λ (m : ℕ). t && in_order p (heads_before words reals i) (heads_from words reals i m)) n) ∙ f.same reals
 
--- ---- the same of words that were widened
-pub free-as : (marks words : List ℕ) (i : ℕ) {channel x y cx cy : ℕ} {t : Bool} → t ≡ free_cells marks channel x y cx cy → x ≡ get_or words (8 * i) 0 → y ≡ get_or words (8 * i + 1) 0 → cx ≡ get_or words (8 * i + 2) 0
-    → cy ≡ get_or words (8 * i + 3) 0 → channel ≡ get_or words (8 * i + 5) 0 → t ≡ free_cells marks (get_or words (8 * i + 5) 0) (get_or words (8 * i) 0) (get_or words (8 * i + 1) 0) (get_or words (8 * i + 2) 0) (get_or words (8 * i + 3) 0)
-free-as marks words i e x y cx cy c = rw (← x, ← y, ← cx, ← cy, ← c) e
-
-pub near-as : (marks words : List ℕ) (i : ℕ) {channel x y : ℕ} {t u : Bool} → t ≡ near_left marks channel x y → u ≡ near_up marks channel x y → x ≡ get_or words (8 * i) 0 → y ≡ get_or words (8 * i + 1) 0
-    → channel ≡ get_or words (8 * i + 5) 0
-    → (t && u) ≡ (near_left marks (get_or words (8 * i + 5) 0) (get_or words (8 * i) 0) (get_or words (8 * i + 1) 0) && near_up marks (get_or words (8 * i + 5) 0) (get_or words (8 * i) 0) (get_or words (8 * i + 1) 0))
-near-as marks words i e f x y c = rw (← x, ← y, ← c) (ap₂ ◌&&◌ e f)
-
-pub written_as : (words : List ℕ) (i : ℕ) (before after : List ℕ) {channel x y cx cy : ℕ} → Written channel x y cx cy 1 before after → x ≡ get_or words (8 * i) 0 → y ≡ get_or words (8 * i + 1) 0 → cx ≡ get_or words (8 * i + 2) 0
-    → cy ≡ get_or words (8 * i + 3) 0 → channel ≡ get_or words (8 * i + 5) 0
-    → Written (get_or words (8 * i + 5) 0) (get_or words (8 * i) 0) (get_or words (8 * i + 1) 0) (get_or words (8 * i + 2) 0) (get_or words (8 * i + 3) 0) 1 before after
-written_as words i before after w x y cx cy c = rw (← x, ← y, ← cx, ← cy, ← c) w
-
 -- ---- the answers
 pub refused-30 : (words : List ℕ) → Tested apart words false → PlacesRefused words 30
 refused-30 words f reals = rw (sym (f reals))
@@ -176,18 +163,6 @@ pub refused_none : (words : List ℕ) → Tested apart words true → Tested nei
 refused_none words f g reals = rw (sym (f reals), sym (g reals))
 
 -- ---- the whole list
-pub whole-not-8 : (words : List ℕ) (reals : List Float) → (length words % 8 ≡ 0 → ⊥) → whole_blocks words reals ≡ false
-unfolding whole_blocks
-whole-not-8 words reals k = rw (ne_eqb (length words % 8) 0 k)
-
-pub whole-not-7 : (words : List ℕ) (reals : List Float) → (length reals ≡ 7 * blocks_in words → ⊥) → whole_blocks words reals ≡ false
-unfolding whole_blocks
-whole-not-7 words reals k = rw (ne_eqb (length reals) (7 * blocks_in words) k, and-false)
-
-pub whole_is : (words : List ℕ) (reals : List Float) → length words % 8 ≡ 0 → length reals ≡ 7 * blocks_in words → whole_blocks words reals ≡ true
-unfolding whole_blocks
-whole_is words reals e k = rw (eq-eqb (length words % 8) 0 e, eq-eqb (length reals) (7 * blocks_in words) k)
-
 pub list-17 : (words : List ℕ) (reals : List Float) → whole_blocks words reals ≡ false → 17 ≡ list_refusal words reals
 unfolding list_refusal
 list-17 words reals e = rw e

@@ -4,36 +4,34 @@
 ghost use Rattle.std.specs.Prelude.{◌≡◌, true, ◌&&◌, ◌+◌, ◌*◌, ◌/◌, ◌%◌, ◌≤◌, ◌<◌, eqb, leb, get_or, length};
 ghost use Rattle.ac_context.specs.Contexts.{is_power_below};
 ghost use Rattle.group_cells.specs.Grid.{at};
-ghost use Rattle.group_list.specs.Checks.{Tested, list_refusal, sided, channelled, inside as Within};
+ghost use Rattle.group_list.specs.Checks.{Tested, list_refusal, whole_blocks, sided, channelled, inside as Within};
 ghost use Rattle.group_checks.specs.Marks.{Marks, free_row, free_cells, near_left, near_up, PlacesRefused};
+ghost use Rattle.refusals.specs.Numbers.{code_of};
 
-fn wide(x: u32) -> usize
-    ensures { result ≡ x }
+use refusals::Refusal;
+
+// 17: whole blocks, 8 words and 7 floats each.
+#[tactic(auto, unfolding(group_list::specs::Checks::whole_blocks))]
+fn is_whole(words: &[u32], reals: &[f32]) -> bool
+    ensures { result ≡ whole_blocks words.now reals.now }
 {
-    x as usize
+    words.len() % 8 == 0 && reals.len() == 7 * (words.len() / 8)
 }
 
 fn are_sides(cx: u32, cy: u32) -> bool
     ensures { result ≡ (is_power_below 6 cx && is_power_below 6 cy) }
 {
-    if block_checks::is_side(cx) {
-        block_checks::is_side(cy)
-    } else {
-        false
-    }
+    block_checks::is_side(cx) && block_checks::is_side(cy)
 }
 
 // 7
 fn sides(words: &[u32]) -> bool
     ensures { Tested sided words.now result }
 {
-    let blocks = words.len() / 8;
-    let mut i = 0;
-    while i < blocks {
+    for i in 0..words.len() / 8 {
         if !are_sides(words[8 * i + 2], words[8 * i + 3]) {
             return false;
         }
-        i += 1;
     }
     true
 }
@@ -42,13 +40,10 @@ fn sides(words: &[u32]) -> bool
 fn channels(words: &[u32]) -> bool
     ensures { Tested channelled words.now result }
 {
-    let blocks = words.len() / 8;
-    let mut i = 0;
-    while i < blocks {
+    for i in 0..words.len() / 8 {
         if words[8 * i + 5] > 2 {
             return false;
         }
-        i += 1;
     }
     true
 }
@@ -56,19 +51,14 @@ fn channels(words: &[u32]) -> bool
 fn is_inside(x: u32, y: u32, cx: u32, cy: u32) -> bool
     ensures { result ≡ (leb (x + cx) 32 && leb (y + cy) 32) }
 {
-    if wide(x) + wide(cx) > 32 {
-        return false;
-    }
-    wide(y) + wide(cy) <= 32
+    x as usize + cx as usize <= 32 && y as usize + cy as usize <= 32
 }
 
 // 29
 fn inside(words: &[u32]) -> bool
     ensures { Tested Within words.now result }
 {
-    let blocks = words.len() / 8;
-    let mut i = 0;
-    while i < blocks {
+    for i in 0..words.len() / 8 {
         if !is_inside(
             words[8 * i],
             words[8 * i + 1],
@@ -77,7 +67,6 @@ fn inside(words: &[u32]) -> bool
         ) {
             return false;
         }
-        i += 1;
     }
     true
 }
@@ -87,14 +76,7 @@ fn free_row(marks: &[u8], start: usize, n: usize) -> bool
     requires { start + n ≤ length marks.now }
     ensures { result ≡ free_row marks.now start n }
 {
-    let mut i = 0;
-    while i < n {
-        if marks[start + i] != 0 {
-            return false;
-        }
-        i += 1;
-    }
-    true
+    marks[start..start + n].iter().all(|&mark| mark == 0)
 }
 
 // Whether the cx by cy cells of a channel from (x, y) on are.
@@ -103,102 +85,85 @@ fn free_cells(marks: &[u8], channel: usize, x: usize, y: usize, cx: usize, cy: u
     requires channel_bound { (channel ≤ 2) × ((x + cx ≤ 32) × (y + cy ≤ 32)) }
     ensures { result ≡ free_cells marks.now channel x y cx cy }
 {
-    let mut j = 0;
-    while j < cy {
+    for j in 0..cy {
         if !free_row(marks, 1024 * channel + 32 * (y + j) + x, cx) {
             return false;
         }
-        j += 1;
     }
     true
 }
 
 // Whether the cell left of (x, y) is marked, where there is one.
+#[tactic(auto, unfolding(crate::specs::Marks::near_left))]
 fn near_left(marks: &[u8], channel: usize, x: usize, y: usize) -> bool
     requires marks_len { length marks.now ≡ 3072 }
     requires channel_bound { (channel ≤ 2) × ((x < 32) × (y < 32)) }
     ensures { result ≡ near_left marks.now channel x y }
 {
-    if x == 0 {
-        return true;
-    }
-    marks[1024 * channel + 32 * y + (x - 1)] != 0
+    x == 0 || marks[1024 * channel + 32 * y + (x - 1)] != 0
 }
 
 // Whether the cell above (x, y) is.
+#[tactic(auto, unfolding(crate::specs::Marks::near_up))]
 fn near_up(marks: &[u8], channel: usize, x: usize, y: usize) -> bool
     requires marks_len { length marks.now ≡ 3072 }
     requires channel_bound { (channel ≤ 2) × ((x < 32) × (y < 32)) }
     ensures { result ≡ near_up marks.now channel x y }
 {
-    if y == 0 {
-        return true;
-    }
-    marks[1024 * channel + 32 * (y - 1) + x] != 0
-}
-
-fn both(a: bool, b: bool) -> bool
-    ensures { result ≡ (a && b) }
-{
-    if a { b } else { false }
+    y == 0 || marks[1024 * channel + 32 * (y - 1) + x] != 0
 }
 
 // 30 and 31, of a list that passed 7, 9 and 29. A block's cells are marked once it is tested, so that the whole is linear. 31 waits for the end of the list, since 30 comes first.
-fn places_on(words: &[u32], marks: &mut [u8]) -> u32
+fn places_on(words: &[u32], marks: &mut [u8]) -> Result<(), Refusal>
     requires marks { Marks words.now 0 marks.old }
     requires tested { Tested sided words.now true × (Tested channelled words.now true × Tested Within words.now true) }
-    ensures { PlacesRefused words.now result }
+    ensures { PlacesRefused words.now (code_of result) }
 {
-    let blocks = words.len() / 8;
     let mut neighboured = true;
-    let mut i = 0;
-    while i < blocks {
-        let x = wide(words[8 * i]);
-        let y = wide(words[8 * i + 1]);
-        let cx = wide(words[8 * i + 2]);
-        let cy = wide(words[8 * i + 3]);
-        let channel = wide(words[8 * i + 5]);
+    for i in 0..words.len() / 8 {
+        let x = words[8 * i] as usize;
+        let y = words[8 * i + 1] as usize;
+        let cx = words[8 * i + 2] as usize;
+        let cy = words[8 * i + 3] as usize;
+        let channel = words[8 * i + 5] as usize;
         if !free_cells(marks, channel, x, y, cx, cy) {
-            return 30;
+            return Err(Refusal::Overlap);
         }
         let left = near_left(marks, channel, x, y);
         let up = near_up(marks, channel, x, y);
-        neighboured = both(neighboured, both(left, up));
+        neighboured = neighboured && left && up;
         group_cells::write_cells(marks, channel, x, y, cx, cy, 1);
-        i += 1;
     }
-    if neighboured { 0 } else { 31 }
+    if neighboured {
+        Ok(())
+    } else {
+        Err(Refusal::NeighbourMissing)
+    }
 }
 
-fn places(words: &[u32]) -> u32
+fn places(words: &[u32]) -> Result<(), Refusal>
     requires { Tested sided words.now true × (Tested channelled words.now true × Tested Within words.now true) }
-    ensures { PlacesRefused words.now result }
+    ensures { PlacesRefused words.now (code_of result) }
 {
     let mut marks = [0u8; 3072];
     places_on(words, &mut marks)
 }
 
-// The first of 17, 7, 9, 29, 30, 31 that the list meets; 0 where it meets none.
-pub fn check_list(words: &[u32], reals: &[f32]) -> u32
-    ensures { result ≡ list_refusal words.now reals.now }
+// The first of 17, 7, 9, 29, 30, 31 that the list meets.
+pub fn check_list(words: &[u32], reals: &[f32]) -> Result<(), Refusal>
+    ensures { code_of result ≡ list_refusal words.now reals.now }
 {
-    if words.len() % 8 != 0 {
-        return 17;
-    }
-    if reals.len() / 7 != words.len() / 8 {
-        return 17;
-    }
-    if reals.len() % 7 != 0 {
-        return 17;
+    if !is_whole(words, reals) {
+        return Err(Refusal::Domain);
     }
     if !sides(words) {
-        return 7;
+        return Err(Refusal::BlockSide);
     }
     if !channels(words) {
-        return 9;
+        return Err(Refusal::Strategy);
     }
     if !inside(words) {
-        return 29;
+        return Err(Refusal::OutsideGroup);
     }
     places(words)
 }

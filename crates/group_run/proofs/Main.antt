@@ -22,8 +22,7 @@ use Rattle.searches.specs.declared.Search.{Search}
 use Rattle.group_run.specs.Block.{Numbers, Room, numbers_of}
 use Rattle.group_run.specs.Run.{Done, Run, ended, run, group_refusal, group_outcome}
 use Rattle.group_run.specs.Demand.{EachRuled, EachSmall, laid, settled_in, Left, SameLengths, done_of, Prefix, Alone, Unaltered, Promised}
-use Rattle.group_run.specs.declared.Group.{Group}
-use Rattle.group_run.specs.declared.Group.TheVariants.{Settled, Stopped}
+use Rattle.group_run.specs.Group.{Group, Settled, Stopped}
 use Rattle.group_run.proofs.Running.{each-ruled, each-small, number_is, levels_are}
 use Rattle.group_run.proofs.Channels as Channels
 

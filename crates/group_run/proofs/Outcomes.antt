@@ -13,8 +13,8 @@ use Rattle.beam.specs.Beam as Beam
 use Rattle.block.specs.Band.{problem_of}
 use Rattle.block.specs.Block.{Block, with_levels, covered, input_remaining}
 use Rattle.block.specs.Outcome.{Lent, Result, cleared, refused}
-use Rattle.block.specs.declared.Answer.{Answer}
-use Rattle.block.specs.declared.Answer.TheVariants.{Cost, Count, Refused}
+use Rattle.block.specs.Answer.{Answer}
+use Rattle.block.specs.Answer.{Cost, Count, Refused}
 use Rattle.greedy.specs.Greedy as Greedy
 use Rattle.greedy.specs.Greedy.{greedy_levels, settled_from, settled_at, chosen}
 use Rattle.least_cost.specs.Search.{least_total, least_levels}

@@ -11,8 +11,8 @@ use lib.Seq.{drop-drop, length-take-le}
 use Rattle.block.specs.Block as Block
 use Rattle.block.specs.Block.{Block}
 use Rattle.block.specs.Outcome.{Result}
-use Rattle.block.specs.declared.Answer.{Answer}
-use Rattle.block.specs.declared.Answer.TheVariants.{Cost, Count, Refused}
+use Rattle.block.specs.Answer.{Answer}
+use Rattle.block.specs.Answer.{Cost, Count, Refused}
 use Rattle.group_cells.specs.Cells.{Counted, Countable, AllCountable}
 use Rattle.group_cells.proofs.Cells.{predicted-most, per-block-most}
 use Rattle.group_list.specs.Checks.{in_order, sided}
@@ -26,7 +26,7 @@ use Rattle.weights.specs.Window.{window_of}
 use Rattle.group_run.specs.Block.{Numbers, Room, room_of, lent_with, size, enough, rest, block_at, searched, settles, count_in, refusal_in}
 use Rattle.group_run.specs.Run.{Done, done_with, counted, Run, ended, followed, run}
 use Rattle.group_run.specs.Demand.{EachRuled, EachSmall, found_of, laid, settled_in}
-use Rattle.group_run.specs.declared.Group.TheVariants.{Stopped}
+use Rattle.group_run.specs.Group.{Stopped}
 use Rattle.group_run.proofs.Outcomes.{meant, count-within, levels-length}
 
 -- the four lengths that check 8 goes by

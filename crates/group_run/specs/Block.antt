@@ -3,8 +3,8 @@ use Rattle.std.specs.Prelude.{ℕ, ◌*◌, min, Bool, true, false, not, cond, �
 use Rattle.bias.specs.declared.DequantBias.{DequantBias}
 use Rattle.block.specs.Block.{Block, block_of}
 use Rattle.block.specs.Outcome.{Lent, Result, lent_of}
-use Rattle.block.specs.declared.Answer.{Answer}
-use Rattle.block.specs.declared.Answer.TheVariants.{Cost, Count, Refused}
+use Rattle.block.specs.Answer.{Answer}
+use Rattle.block.specs.Answer.{Cost, Count, Refused}
 use Rattle.block.specs.declared.Shape.{Shape}
 use Rattle.group_cells.specs.Cells.{Counted, predicted}
 use Rattle.group_list.specs.Heads.{Head, covered}

@@ -11,8 +11,7 @@ use Rattle.searches.specs.declared.Search.{Search}
 use Rattle.weights.specs.Window.{window_of}
 use Rattle.group_run.specs.Block.{Numbers, Room, room_of, lent_with, rest, block_at, searched, numbers_of, settles}
 use Rattle.group_run.specs.Run.{Done, Run, counted, group_outcome}
-use Rattle.group_run.specs.declared.Group.{Group}
-use Rattle.group_run.specs.declared.Group.TheVariants.{Settled, Stopped}
+use Rattle.group_run.specs.Group.{Group, Settled, Stopped}
 
 -- ---- each settled block
 -- what the search of a settled block answered and left, the room with it

@@ -2,7 +2,7 @@
 use Rattle.std.specs.Prelude.{ℕ, cond, List, [], ◌∷◌, ◌++◌, eqb, ℤ, length, drop, Float}
 use Rattle.block.specs.Block.{Block}
 use Rattle.block.specs.Outcome.{Lent, Result}
-use Rattle.block.specs.declared.Answer.{Answer}
+use Rattle.block.specs.Answer.{Answer}
 use Rattle.group_cells.specs.Cells.{Counted}
 use Rattle.group_list.specs.Checks.{list_refusal}
 use Rattle.group_list.specs.Heads.{Head, heads_of}
@@ -10,8 +10,7 @@ use Rattle.prices.specs.Book.{Book}
 use Rattle.prices.specs.Checks.{book_refusal}
 use Rattle.searches.specs.declared.Search.{Search}
 use Rattle.group_run.specs.Block.{Numbers, Room, room_of, lent_with, size, enough, rest, block_at, searched, settles, count_in, refusal_in}
-use Rattle.group_run.specs.declared.Group.{Group}
-use Rattle.group_run.specs.declared.Group.TheVariants.{Settled, Stopped}
+use Rattle.group_run.specs.Group.{Group, Settled, Stopped}
 
 -- a settled block: what the search was given, what it answered and the levels that it left
 pub record Done : Type 0 where

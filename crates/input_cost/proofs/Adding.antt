@@ -8,7 +8,7 @@ use Rattle.block.specs.Band.{half_width, position_at, positions_from, past_windo
 use Rattle.block.specs.Block.{Block, covered, input_at, input_from, input_remaining}
 use Rattle.block.specs.Choice.{window_levels}
 use Rattle.block.specs.Cost.{local_cost, first_prev, count_cost}
-use Rattle.block.specs.declared.Answer.TheVariants.{Cost}
+use Rattle.block.specs.Answer.{Cost}
 use Rattle.least_cost.specs.Choice.{remaining, cost_of}
 use Rattle.least_cost.specs.Position.{Tail, nz}
 use Rattle.least_cost.specs.Search.{count_of, whole_cost}

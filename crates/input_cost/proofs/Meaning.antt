@@ -15,8 +15,8 @@ use Rattle.block.specs.Checks.{valid_width, form_checks, content_checks, block_r
 use Rattle.block.specs.Choice.{window_levels}
 use Rattle.block.specs.Cost.{first_prev, count_cost}
 use Rattle.block.specs.Outcome.{Lent, refused}
-use Rattle.block.specs.declared.Answer.{Answer}
-use Rattle.block.specs.declared.Answer.TheVariants.{Cost, Refused}
+use Rattle.block.specs.Answer.{Answer}
+use Rattle.block.specs.Answer.{Cost, Refused}
 use Rattle.block_checks.specs.Passed.{Passed}
 use Rattle.block_checks.proofs.Laws.{passed}
 use Rattle.costs.specs.Cost.{cost as is_cost}
@@ -168,13 +168,10 @@ module _ (book : Book) (b : Block) where
     pub refuses : (n ≡ 0 → ⊥) → Promised book b (Refused n)
     refuses some = whole (refused-answer _ book b (by-check _ book b e) some)
 
-    pub answers : n ≡ 0 → {answer : Answer} → answer ≡ Cost (input_cost (window_for 1024 (covered b)) (listed book) b) (input_remaining b (covered b)) → Promised book b answer
-    answers none ea =
+    pub answers : n ≡ 0 → {checked : Book} → checked ≡ book → {answer : Answer} → answer ≡ Cost (input_cost (window_for 1024 (covered b)) checked b) (input_remaining b (covered b)) → Promised book b answer
+    answers none same ea =
         let passing = sym (by-check _ book b e) ∙ none in
-        whole
-        (ea
-        ∙ ap (λ (k : Book). Cost (input_cost (window_for 1024 (covered b)) k b) (input_remaining b (covered b))) (sym (own-lists-of (window_for 1024 (covered b)) book b passing))
-        ∙ cost-answer _ book b passing)
+        whole (ea ∙ ap (λ (k : Book). Cost (input_cost (window_for 1024 (covered b)) k b) (input_remaining b (covered b))) same ∙ cost-answer _ book b passing)
 
 -- the plan's window is document 01's
 pub own-cost : {book : Book} (b : Block) {p : Plan} → Checked book b p → p.window ≡ window_for 1024 (b.shape.cx * b.shape.cy) → {answer : Answer}

@@ -5,9 +5,8 @@ use mathlib.Core.List.{List}
 use Prim.Native.Nat.{ℕ, zero, suc, ◌+◌, ◌-◌, ◌*◌, ◌/◌, ◌≤◌, ◌<◌}
 use native.Mathlib.Omega.{arith}
 use native.Mathlib.Nat.{le_refl, not-suc-le-zero, le_of_suc-le-suc}
-use lib.Dec.{T, leb}
+use lib.Dec.{eqb, T, leb}
 use lib.IntN.{ℤ}
-use lib.ListN.{length}
 use lib.Ieee.{Float}
 use Rattle.ac_context.specs.Contexts.{Covered, Coefficient}
 use Rattle.bias.specs.Level.{is_level}
@@ -35,6 +34,10 @@ unfolding local_at
 local_by book x r zero h by e f g s = by.0 refl ∙ e ∙ cc
 local_by book x r (suc zero) h by e f g s = by.1 refl ∙ f ∙ cc
 local_by book x r (suc (suc p)) h by e f g s = absurd (not-suc-le-zero (le_of_suc-le-suc h))
+
+-- the one of two that is for `prev`
+pub by-flag : {p : ℕ} {y first second : Float} → y ≡ cond (eqb p 0) first second → (p ≡ 0 → y ≡ first) × (p ≡ 1 → y ≡ second)
+by-flag e = (λ z. rw z at e, λ z. rw z at e)
 
 -- `prev` by a count
 pub first-few : (n c : ℕ) {p : ℕ} → p ≡ cond (leb n (64 * c / 16)) 1 0 → p ≤ 1

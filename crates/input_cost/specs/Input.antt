@@ -7,8 +7,8 @@ use Rattle.block.specs.Checks.{form_checks, content_checks}
 use Rattle.block.specs.Choice.{window_levels}
 use Rattle.block.specs.Cost.{rate}
 use Rattle.block.specs.Outcome.{Lent}
-use Rattle.block.specs.declared.Answer.{Answer}
-use Rattle.block.specs.declared.Answer.TheVariants.{Cost, Refused}
+use Rattle.block.specs.Answer.{Answer}
+use Rattle.block.specs.Answer.{Cost, Refused}
 use Rattle.costs.specs.Cost.{cost as is_cost}
 use Rattle.laws.specs.Refusals.{first_refused}
 use Rattle.least_cost.specs.Search.{whole_cost}

@@ -3,90 +3,59 @@
 
 mod sum;
 
-ghost use Rattle.std.specs.Prelude.{◌≡◌};
-ghost use Rattle.block.specs.Block.{block_of, covered, input_remaining};
-ghost use Rattle.block.specs.declared.Answer.TheVariants.{Cost};
-ghost use Rattle.prices.specs.Book.{book_of, book_in};
+ghost use Rattle.std.specs.Prelude.{◌≡◌, Ok};
+ghost use Rattle.block.specs.Block.{covered, input_remaining};
+ghost use Rattle.block.specs.Answer.{Cost, answer_of};
+ghost use Rattle.prices.specs.Contents.{contents};
 ghost use Rattle.search_checks.specs.Checked.{Accepted};
 ghost use Rattle.weights.specs.Window.{window_for};
 ghost use Rattle.input_cost.specs.Input.{input_cost, Promised};
+ghost use Rattle.block.specs.Data.{block_with};
+ghost use Rattle.price_view.specs.View.{book_in};
 
-use bias::DequantBias;
-use block::{Answer, Shape};
-use weights::Settings;
+use block::{Answer, BlockData, Picked};
+use block_checks::{Asked, RoomLengths};
+use price_view::PriceView;
+use prices::book::PriceBook;
 
 // Of a book and a block that passed their checks.
-fn passed_cost(
-    map: &[u8],
-    configs: &[u8],
-    symbols: &[f32],
-    ready: &[f32],
-    shape: Shape,
-    settings: Settings,
-    bias: DequantBias,
-    scale: f32,
-    scan: &[u32],
-    source: &[f32],
-    inv_qm: &[f32],
-    levels: &[i32],
-) -> Answer
-    requires { let b = block_of shape settings bias scale scan.now source.now inv_qm.now levels.now in Accepted (window_for 1024 (covered b)) (book_in map.now configs.now symbols.now ready.now) b }
-    ensures { let b = block_of shape settings bias scale scan.now source.now inv_qm.now levels.now in
-        result ≡ Cost (input_cost (window_for 1024 (covered b)) (book_in map.now configs.now symbols.now ready.now) b) (input_remaining b (covered b)) }
+fn passed_cost(book: &PriceBook, block: &BlockData, levels: &[i32]) -> Picked
+    requires { let b = block_with block.now levels.now in Accepted (window_for 1024 (covered b)) (contents book.now) b }
+    ensures { let b = block_with block.now levels.now in
+        answer_of (Ok result) ≡ Cost (input_cost (window_for 1024 (covered b)) (contents book.now) b) (input_remaining b (covered b)) }
 {
-    let plan = steps::reading::plan_of(shape, settings, bias, scale, weights::WINDOW_CAP);
-    sum::cost_of(
-        map, configs, symbols, ready, plan, scan, source, inv_qm, levels,
-    )
+    let plan = steps::reading::plan_of(
+        block.shape,
+        block.settings,
+        block.bias,
+        block.scale,
+        weights::WINDOW_CAP,
+    );
+    sum::cost_of(book, plan, block, levels)
 }
 
 // The cost of the levels and the count of those from scan position c on that are nonzero; or the refusal of a check. Nothing is written. The half-width
 // is one that passes: no cost depends on it.
-pub fn rdoq_input_cost(
-    clusters: u32,
-    map: &[u8],
-    configs: &[u8],
-    symbols: &[f32],
-    ready: &[f32],
-    shape: Shape,
-    settings: Settings,
-    bias: DequantBias,
-    scale: f32,
-    scan: &[u32],
-    source: &[f32],
-    inv_qm: &[f32],
-    levels: &[i32],
-) -> Answer
+pub fn rdoq_input_cost(view: &PriceView, block: &BlockData, levels: &[i32]) -> Answer
     ensures { Promised
-        (book_of clusters map.now configs.now symbols.now ready.now)
-        (block_of shape settings bias scale scan.now source.now inv_qm.now levels.now) result }
+        (book_in view.now)
+        (block_with block.now levels.now) (answer_of result) }
 {
-    let refusal = search_checks::check_search(
-        clusters,
-        map,
-        configs,
-        symbols,
-        ready,
-        shape,
-        settings,
-        bias,
-        scale,
-        scan,
-        source,
-        inv_qm,
+    let book = search_checks::check_search(
+        view,
+        block,
         levels,
         weights::HALF_WIDTH,
         weights::WINDOW_CAP,
-        0,
-        0,
-        0,
-        0,
-        0,
-    );
-    if refusal != 0 {
-        return Answer::Refused(refusal);
-    }
-    passed_cost(
-        map, configs, symbols, ready, shape, settings, bias, scale, scan, source, inv_qm, levels,
-    )
+        Asked {
+            bytes: 0,
+            floats: 0,
+        },
+        RoomLengths {
+            choices: 0,
+            row_a: 0,
+            row_b: 0,
+        },
+    )?;
+    Ok(passed_cost(&book, block, levels))
 }

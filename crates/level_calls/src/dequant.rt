@@ -2,17 +2,16 @@
 ghost use Rattle.std.specs.Prelude.{◌≡◌};
 ghost use Rattle.level_calls.specs.Dequant.{level_reply};
 
-use answers::answer::{OUTSIDE, Real};
 use bias::DequantBias;
+use refusals::Refusal;
 
 // The biased level. Takes levels within ±32,768 and a record that passes check 10.
-pub fn level(bias: DequantBias, quant: i32) -> Real
+#[tactic(auto, unfolding(crate::specs::Dequant::level_reply))]
+pub fn level(bias: DequantBias, quant: i32) -> Result<f32, Refusal>
     ensures { result ≡ level_reply bias quant }
 {
-    if bias::is_level(quant) {
-        if bias.valid() {
-            return Real::Value(bias.level(quant));
-        }
+    if !bias::is_level(quant) || !bias.valid() {
+        return Err(Refusal::Domain);
     }
-    Real::Refused(OUTSIDE)
+    Ok(bias.level(quant))
 }

@@ -7,6 +7,7 @@ ghost use Rattle.std.specs.Prelude.{◌≡◌, ◌≤◌, length};
 ghost use Rattle.block_input.specs.Held.{Whole};
 ghost use Rattle.level_search.specs.State.{Sound};
 
+use block_file::record::Kind;
 use block_file::{fields, record};
 use block_input::Held;
 use block_lists::{BookLengths, room};
@@ -35,7 +36,7 @@ fn beginning() -> State
 
 // Takes a record: a book or a half-width stays until the next one, a block is searched.
 fn take_record(
-    kind: u8,
+    kind: Kind,
     bytes: &[u8],
     map: &mut [u8; record::MAP],
     configs: &mut [u8; record::CONFIGS],
@@ -56,52 +57,40 @@ fn take_record(
     requires whole { Whole kind (length bytes.now) }
     ensures { Sound result }
 {
-    let book = state.book;
-    if kind == record::BOOK {
-        let next = block_lists::take_book(bytes, map, configs, symbols, ready);
-        return State {
-            book: next,
-            half_width: state.half_width,
-            number: state.number,
-            used: state.used,
-        };
-    }
-    if kind == record::WIDTH {
-        return State {
-            book,
+    match kind {
+        Kind::Book => State {
+            book: block_lists::take_book(bytes, map, configs, symbols, ready),
+            ..state
+        },
+        Kind::Width => State {
             half_width: fields::word_at(bytes, 1),
-            number: state.number,
-            used: state.used,
-        };
-    }
-    if kind != record::BLOCK {
-        return state;
-    }
-    let used = block_search::search_record(
-        bytes,
-        state.half_width,
-        state.number,
-        book,
-        map,
-        configs,
-        symbols,
-        ready,
-        levels,
-        work,
-        scan,
-        source,
-        inv_qm,
-        choices,
-        row_a,
-        row_b,
-        out,
-        state.used,
-    );
-    State {
-        book,
-        half_width: state.half_width,
-        number: std::num::wrapping_add_u64(state.number, 1),
-        used,
+            ..state
+        },
+        Kind::Block => State {
+            number: state.number.wrapping_add(1),
+            used: block_search::search_record(
+                bytes,
+                state.half_width,
+                state.number,
+                state.book,
+                map,
+                configs,
+                symbols,
+                ready,
+                levels,
+                work,
+                scan,
+                source,
+                inv_qm,
+                choices,
+                row_a,
+                row_b,
+                out,
+                state.used,
+            ),
+            ..state
+        },
+        Kind::Short | Kind::Unreadable => state,
     }
 }
 
@@ -110,7 +99,7 @@ fn finish(out: &[u8; OUT], used: usize, held: Held)
     requires { used ≤ 65536 }
 {
     search_lines::write_used(out, used);
-    if held.kind == record::UNREADABLE {
+    if held.kind == Kind::Unreadable {
         search_lines::say_unreadable(held.passed);
     }
 }
@@ -133,8 +122,10 @@ fn main() {
     let mut state = beginning();
     let mut held = block_input::next_record(&mut input, block_input::nothing_yet());
     // A proved loop has to end, and nothing says that a file does: no run uses this number up.
-    let mut turns = u64::MAX;
-    while turns > 0 && block_input::is_record(held) {
+    for _ in 0..u64::MAX {
+        if !block_input::is_record(held) {
+            break;
+        }
         state = take_record(
             held.kind,
             block_input::held_bytes(&input, held),
@@ -154,7 +145,6 @@ fn main() {
             state,
         );
         held = block_input::next_record(&mut input, held);
-        turns -= 1;
     }
     finish(&out, state.used, held);
 }

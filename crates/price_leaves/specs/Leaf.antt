@@ -1,11 +1,10 @@
 -- What a price call answers, whatever it is handed (document 01, module 4 and check 17).
-use Rattle.std.specs.Prelude.{ℕ, ◌+◌, ◌*◌, Bool, true, false, ◌&&◌, ◌||◌, leb, ltb, Float, get_or}
+use Rattle.std.specs.Prelude.{ℕ, ◌+◌, ◌*◌, Bool, ◌&&◌, ◌||◌, leb, ltb, Float, get_or, Result}
 use Rattle.prices.specs.Book.{Book, at, symbol_at, cluster_valid, cluster_symbol, cluster_price, price}
 use Rattle.prices.specs.Checks.{symbol_price, same_bits, check1, check2}
-use Rattle.answers.specs.declared.answer.Real.{Real}
-use Rattle.answers.specs.declared.answer.RealPair.{RealPair}
-use Rattle.answers.specs.declared.answer.RealPair.TheVariants.{Value, Refused}
-use Rattle.answers.specs.Leaf.{outside, real}
+use Rattle.prices.specs.declared.Pair.{Pair}
+use Rattle.refusals.specs.declared.Refusal.{Refusal}
+use Rattle.refusals.specs.Numbers.{answered}
 
 -- The entries that value v in cluster k reads pass 3 to 6: the cluster is one, its configuration is valid, the symbol's price is one (+infinity above 127, where none is read), and so is the
 -- ready price of a value below 256.
@@ -25,17 +24,16 @@ unfoldable pub in_domain : Book → ℕ → ℕ → Bool
 in_domain b context v = check1 b && check2 b && ltb context 14850 && leb v 131071 && entries_pass b context v
 
 -- of a context and a value in range, in a book of the right lengths
-unfoldable pub entry_reply : Book → ℕ → ℕ → Real
-entry_reply b context v = real (entries_pass b context v) (price b context v)
+unfoldable pub entry_reply : Book → ℕ → ℕ → Result Float Refusal
+entry_reply b context v = answered (entries_pass b context v) (price b context v)
 
 -- The price, or refusal 17.
-unfoldable pub price_reply : Book → ℕ → ℕ → Real
-price_reply b context v = real (in_domain b context v) (price b context v)
+unfoldable pub price_reply : Book → ℕ → ℕ → Result Float Refusal
+price_reply b context v = answered (in_domain b context v) (price b context v)
 
-abbrev pub both : Bool → Float → Float → RealPair
-both true one two = Value one two
-both false one two = Refused outside
+abbrev pub both : Bool → Float → Float → Result Pair Refusal
+both within one two = answered within (record { first = one; second = two })
 
 -- The prices in a context and the next one, or refusal 17.
-unfoldable pub pair_reply : Book → ℕ → ℕ → RealPair
+unfoldable pub pair_reply : Book → ℕ → ℕ → Result Pair Refusal
 pair_reply b context v = both (in_domain b context v && in_domain b (context + 1) v) (price b context v) (price b (context + 1) v)

@@ -2,105 +2,66 @@
 #![tactic(auto)]
 
 ghost use Rattle.std.specs.Prelude.{◌≡◌, true, ◌≤◌, ◌<◌, ◌+◌};
-ghost use Rattle.prices.specs.Book.{book_of};
+ghost use Rattle.price_view.specs.View.{book_in};
 ghost use Rattle.prices.specs.Checks.{check1, check2};
 ghost use Rattle.price_leaves.specs.Leaf.{price_reply, pair_reply, entry_reply};
 
-use answers::answer::{OUTSIDE, Real, RealPair};
+use price_view::PriceView;
+use prices::Pair;
+use refusals::Refusal;
 
 // The price of a value in a context of a book with the right lengths, where the entries that it reads pass their checks.
-fn entry_price(
-    clusters: u32,
-    map: &[u8],
-    configs: &[u8],
-    symbols: &[f32],
-    ready: &[f32],
-    context: usize,
-    value: u32,
-) -> Real
-    requires ready_value { check1 (book_of clusters map.now configs.now symbols.now ready.now) ≡ true }
-    requires ready_value_2 { check2 (book_of clusters map.now configs.now symbols.now ready.now) ≡ true }
+#[tactic(auto, unfolding(crate::specs::Leaf::entry_reply, crate::specs::Leaf::entries_pass, crate::specs::Leaf::cluster_passes, prices::specs::Book::cluster_valid, prices::specs::Book::price))]
+fn entry_price(view: &PriceView, context: usize, value: u32) -> Result<f32, Refusal>
+    requires counts { check1 (book_in view.now) ≡ true }
+    requires lengths { check2 (book_in view.now) ≡ true }
     requires context_bound { context < 14850 }
     requires value_bound { value ≤ 131071 }
-    ensures { result ≡ entry_reply (book_of clusters map.now configs.now symbols.now ready.now) context value }
+    ensures { result ≡ entry_reply (book_in view.now) context value }
 {
-    let cluster = map[context] as usize;
-    if cluster >= clusters as usize {
-        return Real::Refused(OUTSIDE);
+    let cluster = usize::from(view.map[context]);
+    if cluster >= view.clusters as usize {
+        return Err(Refusal::Domain);
     }
+    let configs = view.configs;
     let at = 3 * cluster;
-    if packing::valid_config(configs[at], configs[at + 1], configs[at + 2]) {
-        let split = prices::cluster_split(configs, cluster, value);
-        let word = prices::symbol_at(symbols, cluster, split.symbol);
-        if book_checks::unpriced(word) != 0 {
-            return Real::Refused(OUTSIDE);
-        }
-        let price = prices::cluster_price(configs, symbols, cluster, value);
-        if value >= 256 {
-            return Real::Value(price);
-        }
-        if book_rows::differs(ready[256 * cluster + value as usize], price) != 0 {
-            return Real::Refused(OUTSIDE);
-        }
-        return Real::Value(price);
+    if !packing::valid_config(configs[at], configs[at + 1], configs[at + 2]) {
+        return Err(Refusal::Domain);
     }
-    Real::Refused(OUTSIDE)
+    let split = prices::cluster_split(configs, cluster, value);
+    if !book_checks::is_symbol_price(prices::symbol_at(view.symbols, cluster, split.symbol)) {
+        return Err(Refusal::Domain);
+    }
+    let price = prices::cluster_price(configs, view.symbols, cluster, value);
+    if value < 256 && !book_rows::same_bits(view.ready[256 * cluster + value as usize], price) {
+        return Err(Refusal::Domain);
+    }
+    Ok(price)
 }
 
 // The price of a value in a context.
-pub fn token_bits(
-    clusters: u32,
-    map: &[u8],
-    configs: &[u8],
-    symbols: &[f32],
-    ready: &[f32],
-    context: u32,
-    value: u32,
-) -> Real
-    ensures { result ≡ price_reply (book_of clusters map.now configs.now symbols.now ready.now) context value }
+#[tactic(auto, unfolding(crate::specs::Leaf::price_reply, crate::specs::Leaf::entry_reply, crate::specs::Leaf::in_domain, prices::specs::Checks::first_two))]
+pub fn token_bits(view: &PriceView, context: u32, value: u32) -> Result<f32, Refusal>
+    ensures { result ≡ price_reply (book_in view.now) context value }
 {
-    if context >= 14850 {
-        return Real::Refused(OUTSIDE);
+    if context >= 14850 || value > 131071 {
+        return Err(Refusal::Domain);
     }
-    if value > 131071 {
-        return Real::Refused(OUTSIDE);
+    if book_checks::check_lengths(view).is_err() {
+        return Err(Refusal::Domain);
     }
-    if book_checks::check_lengths(clusters, map, configs, symbols, ready) != 0 {
-        return Real::Refused(OUTSIDE);
-    }
-    entry_price(
-        clusters,
-        map,
-        configs,
-        symbols,
-        ready,
-        context as usize,
-        value,
-    )
+    entry_price(view, context as usize, value)
 }
 
 // The prices of a value in a context and the next one.
-pub fn token_bits_pair(
-    clusters: u32,
-    map: &[u8],
-    configs: &[u8],
-    symbols: &[f32],
-    ready: &[f32],
-    context: u32,
-    value: u32,
-) -> RealPair
-    ensures { result ≡ pair_reply (book_of clusters map.now configs.now symbols.now ready.now) context value }
+#[tactic(auto, unfolding(crate::specs::Leaf::pair_reply, crate::specs::Leaf::price_reply, crate::specs::Leaf::in_domain))]
+pub fn token_bits_pair(view: &PriceView, context: u32, value: u32) -> Result<Pair, Refusal>
+    ensures { result ≡ pair_reply (book_in view.now) context value }
 {
     if context >= 14849 {
-        return RealPair::Refused(OUTSIDE);
+        return Err(Refusal::Domain);
     }
-    let one = token_bits(clusters, map, configs, symbols, ready, context, value);
-    let two = token_bits(clusters, map, configs, symbols, ready, context + 1, value);
-    match one {
-        Real::Refused(_) => RealPair::Refused(OUTSIDE),
-        Real::Value(a) => match two {
-            Real::Refused(_) => RealPair::Refused(OUTSIDE),
-            Real::Value(b) => RealPair::Value(a, b),
-        },
-    }
+    let first = token_bits(view, context, value)?;
+    let second = token_bits(view, context + 1, value)?;
+    Ok(Pair { first, second })
 }

@@ -1,5 +1,5 @@
-// A price book as one value: a view that refers to the caller's context map, configurations and prices (document 01, "a price view"). The calls over it take it
-// apart and leave the work to the calls on plain slices. The caller keeps the slices; a view is a copy of references and a number.
+// A price book as one value: a view that refers to the caller's context map, configurations and prices (document 01, "a price view"). The
+// checks of a book and the price calls go by it. The caller keeps the slices; a view is a copy of references and a number.
 #![tactic(auto)]
 
 ghost use Rattle.std.specs.Prelude.{◌≡◌};

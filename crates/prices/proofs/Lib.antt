@@ -1,4 +1,5 @@
 pub mod Each
 pub mod Order
 pub mod Passed
+pub mod Held
 pub mod Costs

@@ -1,10 +1,14 @@
 // The price of a value in a context, from a book that passed its checks (document 01, module 4).
 #![tactic(auto)]
 
-ghost use Rattle.std.specs.Prelude.{◌≡◌, true, ◌≤◌, ◌<◌, ◌+◌, ◌*◌, length, get_or};
-ghost use Rattle.prices.specs.Book.{book_in, price, symbol_at, cluster_price, cluster_valid, cluster_symbol, cluster_extra};
-ghost use Rattle.prices.specs.Checks.{book_refusal, ClusterPassed};
+pub mod book;
 
+ghost use Rattle.std.specs.Prelude.{◌≡◌, true, ◌≤◌, ◌<◌, ◌+◌, ◌*◌, length, get_or};
+ghost use Rattle.prices.specs.Book.{price, symbol_at, cluster_price, cluster_valid, cluster_symbol, cluster_extra};
+ghost use Rattle.prices.specs.Checks.{ClusterPassed};
+ghost use Rattle.prices.specs.Contents.{contents};
+
+use book::PriceBook;
 use packing::{HybridUintConfig, Split, uint_encode_with_config};
 
 // The prices of a value in two contexts.
@@ -63,7 +67,7 @@ pub fn cluster_price(configs: &[u8], symbols: &[f32], cluster: usize, value: u32
     symbol_at(symbols, cluster, split.symbol) + split.extra_bits as f32
 }
 
-// The price of a value in a cluster of a book that passed its checks. Values below 256 are kept ready.
+// The price of a value in a cluster that passed its checks. Values below 256 are kept ready.
 pub fn cluster_bits(
     configs: &[u8],
     symbols: &[f32],
@@ -81,41 +85,36 @@ pub fn cluster_bits(
     cluster_price(configs, symbols, cluster, value)
 }
 
-// The price of a value in a context.
-pub fn token_bits(
-    map: &[u8],
-    configs: &[u8],
-    symbols: &[f32],
-    ready: &[f32],
-    context: usize,
-    value: u32,
-) -> f32
-    requires ready_value { book_refusal (book_in map.now configs.now symbols.now ready.now) ≡ 0 }
-    requires context_bound { context < 14850 }
-    requires value_bound { value ≤ 131071 }
-    ensures { result ≡ price (book_in map.now configs.now symbols.now ready.now) context value }
-{
-    let cluster = map[context] as usize;
-    cluster_bits(configs, symbols, ready, cluster, value)
-}
+impl<'a> PriceBook<'a> {
+    // The price of a value in a cluster.
+    pub fn cluster_bits(&self, cluster: usize, value: u32) -> f32
+        requires cluster_bound { cluster < (contents self.now).clusters }
+        requires value_bound { value ≤ 131071 }
+        ensures { result ≡ cluster_price self.now.configs.now self.now.symbols.now cluster value }
+    {
+        cluster_bits(self.configs, self.symbols, self.ready, cluster, value)
+    }
 
-// The prices of a value in a context and the next one: the two `prev` contexts of a coefficient.
-pub fn token_bits_pair(
-    map: &[u8],
-    configs: &[u8],
-    symbols: &[f32],
-    ready: &[f32],
-    context: usize,
-    value: u32,
-) -> Pair
-    requires ready_value { book_refusal (book_in map.now configs.now symbols.now ready.now) ≡ 0 }
-    requires context_bound { context < 14849 }
-    requires value_bound { value ≤ 131071 }
-    ensures first_value { result.first ≡ price (book_in map.now configs.now symbols.now ready.now) context value }
-    ensures second_value { result.second ≡ price (book_in map.now configs.now symbols.now ready.now) (context + 1) value }
-{
-    Pair {
-        first: token_bits(map, configs, symbols, ready, context, value),
-        second: token_bits(map, configs, symbols, ready, context + 1, value),
+    // The price of a value in a context.
+    pub fn token_bits(&self, context: usize, value: u32) -> f32
+        requires context_bound { context < 14850 }
+        requires value_bound { value ≤ 131071 }
+        ensures { result ≡ price (contents self.now) context value }
+    {
+        self.cluster_bits(self.map[context] as usize, value)
+    }
+
+    // The prices of a value in a context and the next one: the two `prev` contexts of a coefficient. Inlined, since a call of its own would cost the searches more.
+    #[inline(always)]
+    pub fn token_bits_pair(&self, context: usize, value: u32) -> Pair
+        requires context_bound { context < 14849 }
+        requires value_bound { value ≤ 131071 }
+        ensures first_value { result.first ≡ price (contents self.now) context value }
+        ensures second_value { result.second ≡ price (contents self.now) (context + 1) value }
+    {
+        Pair {
+            first: self.token_bits(context, value),
+            second: self.token_bits(context + 1, value),
+        }
     }
 }

@@ -1,3 +1,3 @@
 // A whole group in order.
 pub use group_calls::rdoq_group;
-pub use group_run::Group;
+pub use group_run::{Answer, Stopped};

@@ -7,15 +7,11 @@ ghost use Rattle.std.specs.Float.{inf};
 pub fn clear_choices(choices: &mut [u8])
     ensures { choices.new ≡ replicate (length choices.old) 255 }
 {
-    for i in 0..choices.len() {
-        choices[i] = 255;
-    }
+    choices.fill(255);
 }
 
 pub fn clear_row(row: &mut [f32])
     ensures { row.new ≡ replicate (length row.old) (inf false) }
 {
-    for i in 0..row.len() {
-        row[i] = costs::infinity();
-    }
+    row.fill(costs::infinity());
 }

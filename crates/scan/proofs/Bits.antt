@@ -1,19 +1,23 @@
 -- Marks held as bits, 64 to a word. Assumes nothing.
 use mathlib.Core.Path.{◌≡◌, refl, sym, ◌∙◌, ap}
-use mathlib.Core.Bool.{Bool, true, false, true≢false}
+use mathlib.Core.Bool.{Bool, true, false, true≢false, ◌&&◌}
 use mathlib.Core.List.{List}
 use Prim.Native.Nat.{ℕ, zero, suc, ◌+◌, ◌*◌, ◌-◌, ◌/◌, ◌%◌, ◌^◌, ◌≤◌, ◌<◌, max}
 use native.Mathlib.Nat.{one-mul, lt_irrefl, pow-suc, mod-eq_of_lt, zero-div, div-eq_of_lt, max-le, max-zero, max_comm, max-eq_left}
-use native.Mathlib.Numerals.{one-add}
+use native.Mathlib.Numerals.{one-add, add-one}
 use native.Mathlib.Omega.{arith}
 use lib.Bits.{bit_or, or_shr, or_step}
-use lib.Dec.{lit≤}
-use lib.ListN.{length, get_or, set, replicate, length-replicate, get_or-replicate}
+use borrow.Author.Tests.{eq-eqb, eqb-true}
+use lib.Dec.{lit≤, eqb}
+use lib.ListN.{length, get_or, set, take, replicate, length-replicate, get_or-replicate}
 use lib.Pow.{pow_pos, pow-add, pow-lt, shr-shr, shl-shr, high, ones_split, ones_lt}
 use lib.Seq.{get_or-set_same, get_or-set_other}
+use Rattle.std.specs.List.{list_all}
+use Rattle.std.proofs.lemmas.List.Folds.{list_all_more}
+use Rattle.laws.proofs.Tests.{and_left, and_right}
 use Rattle.scan.specs.Marks.{marked_below, bit_at, Marks}
 use Rattle.scan.proofs.Counts.{either, split}
-use Rattle.scan.proofs.Marks.{marks-none, marks-more, marked-at, marked_all, refuted}
+use Rattle.scan.proofs.Marks.{marks-none, marks-more, marked-at, marked_all, refuted, same_truth}
 
 bit-most : (v : ℕ) → v % 2 ≤ 1
 bit-most v = omega arith
@@ -143,3 +147,27 @@ not_full words j n h fits other = refuted _ (λ e. other (all_ones 64 (get_or wo
 pub bits_left : (words : List ℕ) (n k : ℕ) → k ≤ n → marked_below k (bit_at words) ≡ false → marked_below n (bit_at words) ≡ false
 bits_left words n k h e =
     refuted _ (λ t. true≢false (sym (marked_all k (bit_at words) (λ i l. marked-at n (bit_at words) t i (omega arith))) ∙ e))
+
+-- the first n words are full just where their bits are set
+abbrev is_full : ℕ → Bool
+is_full w = eqb w full
+
+full_set : (words : List ℕ) (n : ℕ) → n ≤ length words → list_all is_full (take n words) ≡ true → SetTo words (64 * n)
+full_set words zero h e = set-none words
+full_set words (suc n) h e =
+    let both : list_all is_full (take n words) && is_full (get_or words n 0) ≡ true = sym (list_all_more is_full words n 0 h) ∙ rw (← add-one n) at e in
+    rw (← add-one n) (full-more words n (full_set words n (omega arith) (and_left _ _ both)) (eqb-true _ _ (and_right _ _ both)))
+
+set_full : (words : List ℕ) (n : ℕ) → n ≤ length words → ((j : ℕ) → get_or words j 0 < 2 ^ 64) → marked_below (64 * n) (bit_at words) ≡ true → list_all is_full (take n words) ≡ true
+set_full words n h fits e = go n (omega arith)
+  where
+    each : (j : ℕ) → j < n → is_full (get_or words j 0) ≡ true
+    each j l = either (get_or words j 0) full (λ p. eq-eqb _ _ p) (λ d. absurd (true≢false (sym e ∙ not_full words j n l (fits j) d)))
+
+    go : (k : ℕ) → k ≤ n → list_all is_full (take k words) ≡ true
+    go zero l = refl
+    go (suc k) l = rw (← add-one k) (list_all_more is_full words k 0 (omega arith) ∙ rw (go k (omega arith)) (each k l))
+
+pub all_full : (words : List ℕ) (n : ℕ) → n ≤ length words → ((j : ℕ) → get_or words j 0 < 2 ^ 64) → list_all is_full (take n words) ≡ marked_below (64 * n) (bit_at words)
+all_full words n h fits =
+    same_truth _ _ (λ e. set-done words (64 * n) (full_set words n h e)) (set_full words n h fits)

@@ -2,14 +2,14 @@
 use mathlib.Core.Path.{◌≡◌, refl, sym, ◌∙◌, ap}
 use mathlib.Core.Bool.{Bool, true, false, ◌&&◌, cond, true≢false}
 use mathlib.Core.List.{List}
-use Prim.Native.Nat.{ℕ, zero, suc, ◌+◌, ◌%◌, ◌≤◌, ◌<◌}
+use Prim.Native.Nat.{ℕ, zero, suc, min, ◌+◌, ◌%◌, ◌≤◌, ◌<◌}
 use native.Mathlib.Nat.{lt_irrefl, not-suc-le-zero, mod-eq_of_lt}
 use native.Mathlib.Numerals.{add-one}
 use native.Mathlib.Omega.{arith}
 use borrow.Author.Count.{below_more}
 use borrow.Author.Tests.{lt-ltb, le-ltb, ltb-true, ne_eqb}
 use lib.Dec.{ltb, eqb, lit≤}
-use lib.ListN.{length, get_or, set, take, replicate, length-set, length-replicate, get_or-replicate}
+use lib.ListN.{length, get_or, set, take, replicate, length-replicate, get_or-replicate}
 use lib.Seq.{take-length, get_or-set_same, get_or-set_other}
 use Rattle.laws.proofs.Tests.{and_left, and_right}
 use Rattle.scan.specs.Marks.{mark_of, marked_below, byte_at, Marked, Marks}
@@ -92,15 +92,13 @@ unfolding marked_below
 least-none m = refl
 
 -- the least of 1 and the first marks: 1 where all are marked, else 0
-pub least_more :
-    (m : ℕ → ℕ) (k : ℕ) {least next : ℕ} → least ≡ cond (marked_below k m) 1 0 → (m k < least → next ≡ m k) → (least ≤ m k → next ≡ least)
-    → next ≡ cond (marked_below (k + 1) m) 1 0
+pub least_more : (m : ℕ → ℕ) (k : ℕ) {least next : ℕ} → least ≡ cond (marked_below k m) 1 0 → next ≡ min (m k) least → next ≡ cond (marked_below (k + 1) m) 1 0
 unfolding marked_below
-least_more m k {least} {next} e low high = rw add-one (go (marked_below k m) e)
+least_more m k {least} {next} e f = rw add-one (go (marked_below k m) e)
   where
     go : (b : Bool) → least ≡ cond b 1 0 → next ≡ cond (b && ltb 0 (m k)) 1 0
-    go true f = split 0 (m k) (λ p. rw (lt-ltb 0 _ p) (omega (arith, high (omega arith)))) (λ g. rw (le-ltb 0 _ g) (omega (arith, low (omega arith))))
-    go false f = omega (arith, high (omega arith))
+    go true g = split 0 (m k) (λ p. rw (lt-ltb 0 _ p) (omega arith)) (λ h. rw (le-ltb 0 _ h) (omega arith))
+    go false g = omega arith
 
 pub least-done : (b : Bool) {least : ℕ} → least ≡ cond b 1 0 → eqb least 1 ≡ b
 least-done true e = rw e

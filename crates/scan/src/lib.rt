@@ -5,13 +5,7 @@ ghost use Rattle.std.specs.Prelude.{◌≡◌, true, ℕ, ◌+◌, ◌*◌, ◌/
 ghost use Rattle.scan.specs.Marks.{Marked, Marks, marked_below, byte_at, bit_at};
 ghost use Rattle.scan.specs.Scan.{each_once};
 
-fn wide(x: u32) -> usize
-    ensures { result ≡ x }
-{
-    x as usize
-}
-
-// 0 for a number below n, else 1.
+// 0 for a number below n, else 1: added up without a branch.
 fn outside(x: usize, n: usize) -> usize
     ensures { (result ≤ 1) × ((x < n → result ≡ 0) × (n ≤ x → result ≡ 1)) }
 {
@@ -26,32 +20,22 @@ fn mark(scan: &[u32], marks: &mut [u8]) -> bool
     ensures { Marked scan.now result (byte_at marks.new) }
 {
     let mut bad = 0;
-    let mut k = 0;
-    while k < scan.len() {
-        let x = wide(scan[k]);
+    for &number in scan {
+        let x = number as usize;
         bad += outside(x, scan.len());
         marks[x % marks.len()] = 1;
-        k += 1;
     }
     bad == 0
 }
 
-fn smaller(x: u8, y: u8) -> u8
-    ensures { (x < y → result ≡ x) × (y ≤ x → result ≡ y) }
-{
-    if x < y { x } else { y }
-}
-
-// Whether the first n are marked: by the least of them, so that the loop takes many at a time.
+// Whether the first n are marked: by the least of them and with no early exit, so that the loop takes many at a time.
 fn all_marked(marks: &[u8], n: usize) -> bool
     requires { n ≤ length marks.now }
     ensures { result ≡ marked_below n (byte_at marks.now) }
 {
-    let mut least: u8 = 1;
-    let mut k = 0;
-    while k < n {
-        least = smaller(marks[k], least);
-        k += 1;
+    let mut least = 1;
+    for &mark in &marks[..n] {
+        least = mark.min(least);
     }
     least == 1
 }
@@ -61,10 +45,7 @@ fn marks_all(scan: &[u32], marks: &mut [u8]) -> bool
     requires by_index { (i : ℕ) → i < length scan.now → get_or marks.old i 0 ≡ 0 }
     ensures { result ≡ each_once scan.now }
 {
-    if mark(scan, marks) {
-        return all_marked(marks, scan.len());
-    }
-    false
+    mark(scan, marks) && all_marked(marks, scan.len())
 }
 
 // The word that has the bit of x, held to n words.
@@ -82,7 +63,7 @@ fn mark_bit(scan: &[u32], words: &mut [u64], k: usize, bad: usize) -> usize
     ensures marks_2 { Marks scan.now result (bit_at words.new) (k + 1) }
     ensures words_len_unchanged { length words.new ≡ length words.old }
 {
-    let x = wide(scan[k]);
+    let x = scan[k] as usize;
     let at = word_of(x, words.len());
     words[at] = words[at] | (1 << (x % 64));
     bad + outside(x, scan.len())
@@ -108,7 +89,8 @@ fn mark_four(scan: &[u32], words: &mut [u64], k: usize, bad: usize) -> usize
     mark_two(scan, words, k + 2, so_far)
 }
 
-// The same with 64 marks in a word. The loop is not unrolled by itself: four numbers at a time.
+// The same with 64 marks in a word. Four numbers at a time, since a `for` over them all is not unrolled by itself: 65,536 numbers in diagonal or in random order
+// take it 86 µs in place of 75.
 fn mark_bits(scan: &[u32], words: &mut [u64]) -> bool
     requires words_nonzero { (0 < length words.old) × (length scan.now ≤ 64 * length words.old) }
     requires by_index { (j : ℕ) → j < length words.old → get_or words.old j 0 ≡ 0 }
@@ -134,14 +116,7 @@ fn all_full(words: &[u64], n: usize) -> bool
     requires { n ≤ length words.now }
     ensures { result ≡ marked_below (64 * n) (bit_at words.now) }
 {
-    let mut j = 0;
-    while j < n {
-        if words[j] != 0xffff_ffff_ffff_ffff {
-            return false;
-        }
-        j += 1;
-    }
-    true
+    words[..n].iter().all(|&word| word == u64::MAX)
 }
 
 // Whether the first n bits are set, those of whole words being so.
@@ -150,12 +125,10 @@ fn rest_set(words: &[u64], n: usize) -> bool
     requires words_value { marked_below (64 * (n / 64)) (bit_at words.now) ≡ true }
     ensures { result ≡ marked_below n (bit_at words.now) }
 {
-    let mut i = 64 * (n / 64);
-    while i < n {
+    for i in 64 * (n / 64)..n {
         if (words[i / 64] >> (i % 64)) % 2 == 0 {
             return false;
         }
-        i += 1;
     }
     true
 }
@@ -165,10 +138,7 @@ fn all_set(words: &[u64], n: usize) -> bool
     requires { n ≤ 64 * length words.now }
     ensures { result ≡ marked_below n (bit_at words.now) }
 {
-    if all_full(words, n / 64) {
-        return rest_set(words, n);
-    }
-    false
+    all_full(words, n / 64) && rest_set(words, n)
 }
 
 fn bits_all(scan: &[u32], words: &mut [u64]) -> bool
@@ -176,41 +146,23 @@ fn bits_all(scan: &[u32], words: &mut [u64]) -> bool
     requires by_index { (j : ℕ) → j < length words.old → get_or words.old j 0 ≡ 0 }
     ensures { result ≡ each_once scan.now }
 {
-    if mark_bits(scan, words) {
-        return all_set(words, scan.len());
-    }
-    false
+    mark_bits(scan, words) && all_set(words, scan.len())
 }
 
-fn each_once_64(scan: &[u32]) -> bool
-    requires { length scan.now ≤ 64 }
+fn each_once_by_bytes<const N: usize>(scan: &[u32]) -> bool
+    requires some_marks { (0 < N) × (N ≤ 8192) }
+    requires enough_marks { length scan.now ≤ N }
     ensures { result ≡ each_once scan.now }
 {
-    let mut marks = [0u8; 64];
+    let mut marks = [0u8; N];
     marks_all(scan, &mut marks)
 }
 
-fn each_once_1024(scan: &[u32]) -> bool
-    requires { length scan.now ≤ 1024 }
-    ensures { result ≡ each_once scan.now }
-{
-    let mut marks = [0u8; 1024];
-    marks_all(scan, &mut marks)
-}
-
-fn each_once_8192(scan: &[u32]) -> bool
-    requires { length scan.now ≤ 8192 }
-    ensures { result ≡ each_once scan.now }
-{
-    let mut marks = [0u8; 8192];
-    marks_all(scan, &mut marks)
-}
-
-fn each_once_65536(scan: &[u32]) -> bool
+fn each_once_by_bits(scan: &[u32]) -> bool
     requires { length scan.now ≤ 65536 }
     ensures { result ≡ each_once scan.now }
 {
-    let mut words: [u64; 1024] = [0; 1024];
+    let mut words = [0u64; 1024];
     bits_all(scan, &mut words)
 }
 
@@ -219,14 +171,10 @@ pub fn each_once(scan: &[u32]) -> bool
     requires { length scan.now ≤ 65536 }
     ensures { result ≡ each_once scan.now }
 {
-    if scan.len() <= 64 {
-        return each_once_64(scan);
+    match scan.len() {
+        0..=64 => each_once_by_bytes::<64>(scan),
+        65..=1024 => each_once_by_bytes::<1024>(scan),
+        1025..=8192 => each_once_by_bytes::<8192>(scan),
+        _ => each_once_by_bits(scan),
     }
-    if scan.len() <= 1024 {
-        return each_once_1024(scan);
-    }
-    if scan.len() <= 8192 {
-        return each_once_8192(scan);
-    }
-    each_once_65536(scan)
 }

@@ -28,6 +28,10 @@ module _ (w cap : ℕ) (book : Book) (b : Block) (room : Bool) (none : search_re
   pub accepted-listed : 0 < cap → Accepted (window_for cap (covered b)) (listed book) b
   accepted-listed some = subst (λ (k : Book). Accepted (window_for cap (covered b)) k b) (by-lists book (searched w _ book b room none).0) (accepted some)
 
+  -- .. by the book that was checked
+  pub accepted-checked : {checked : Book} → checked ≡ book → 0 < cap → Accepted (window_for cap (covered b)) checked b
+  accepted-checked same some = subst⁻¹ (λ (k : Book). Accepted (window_for cap (covered b)) k b) same (accepted some)
+
   pub accepted-room : room ≡ true
   accepted-room = (searched w _ book b room none).1.1
 

@@ -1,12 +1,12 @@
 // What follows the window, where a search starts.
 ghost use Rattle.std.specs.Prelude.{◌≡◌, ◌+◌, ◌*◌, ◌≤◌, length};
 ghost use Rattle.block.specs.Block.{Block, covered};
-ghost use Rattle.prices.specs.Book.{book_in};
-ghost use Rattle.prices.specs.Checks.{book_refusal};
+ghost use Rattle.prices.specs.Contents.{contents};
 ghost use Rattle.scan.specs.Scan.{Perm};
 ghost use Rattle.steps.specs.Plan.{Planned, Coded, Whole};
 ghost use Rattle.search_checks.specs.Start.{Starts};
 
+use prices::book::PriceBook;
 use steps::reading::Plan;
 use steps::tokens;
 
@@ -18,27 +18,18 @@ pub struct Start {
     pub one: f32,
 }
 
-pub fn start_of(
-    map: &[u8],
-    configs: &[u8],
-    symbols: &[f32],
-    ready: &[f32],
-    plan: Plan,
-    scan: &[u32],
-    levels: &[i32],
-) -> Start
-    requires ready_value { book_refusal (book_in map.now configs.now symbols.now ready.now) ≡ 0 }
+pub fn start_of(book: &PriceBook, plan: Plan, scan: &[u32], levels: &[i32]) -> Start
     requires coded { Coded plan }
     requires whole { Whole plan.covered (plan.covered + plan.window.length) scan.now levels.now }
     requires length_in_bounds { plan.covered + plan.window.length ≤ length scan.now }
     requires perm { (Perm scan.now (length levels.now)) × (length levels.now ≤ 65536) }
     ensures { (b : Block) → scan.now ≡ b.scan → levels.now ≡ b.levels → length b.scan ≡ 64 * covered b → Planned b plan
-        → Starts plan.window (book_in map.now configs.now symbols.now ready.now) b result }
+        → Starts plan.window (contents book.now) b result }
 {
     let window = plan.window;
     let from = plan.covered + window.length;
     let past = tokens::nonzeros_from(scan, levels, from);
-    let tails = tokens::tail_costs(map, configs, symbols, ready, plan, scan, levels, from, past);
+    let tails = tokens::tail_costs(book, plan, scan, levels, from, past);
     Start {
         past,
         zero: tails.first,

@@ -59,10 +59,8 @@ pub fn print_line(
 {
     let at = make_room(out, used);
     let mut end = line::put_head(out, at, number, name, answer);
-    let mut i = 0;
-    while i < before.len() {
-        end = print_change(out, end, i, before[i], after[i]);
-        i += 1;
+    for (index, &level) in before.iter().enumerate() {
+        end = print_change(out, end, index, level, after[index]);
     }
     let last = make_room(out, end);
     out[last] = 10;

@@ -14,8 +14,8 @@ use Rattle.beam.proofs.Demand as BeamDemand
 use Rattle.block.specs.Block.{Block, covered}
 use Rattle.block.specs.Checks.{search_refusal, block_refusal, enough_room, states, valid_width}
 use Rattle.block.specs.Outcome.{Lent, Result, lent_of, result_of, cleared, refused}
-use Rattle.block.specs.declared.Answer.{Answer}
-use Rattle.block.specs.declared.Answer.TheVariants.{Refused}
+use Rattle.block.specs.Answer.{Answer}
+use Rattle.block.specs.Answer.{Refused}
 use Rattle.block_checks.proofs.Laws.{passed, refused-book, refused-block}
 use Rattle.block_checks.specs.Passed.{Passed}
 use Rattle.greedy.specs.Greedy as Greedy
@@ -34,7 +34,7 @@ use Rattle.weights.specs.declared.Window.{Window}
 use Rattle.weights.proofs.Lengths.{whole-window}
 use Rattle.searches.specs.Accepted.{Searchable}
 use Rattle.searches.specs.Outcome.{asked_by, refusal_of, searched_outcome, search_outcome, AnyWidth, Demanded, PromisedIn, Promised}
-use Rattle.searches.specs.declared.Asked.{Asked}
+use Rattle.block_checks.specs.declared.Asked.{Asked}
 use Rattle.searches.specs.declared.Search.{Search}
 use Rattle.searches.specs.declared.Search.TheVariants.{Greedy, Beam, Trellis, Unfactored}
 
@@ -176,9 +176,9 @@ module _ (w : ℕ) (v : Window) (book : Book) (b : Block) (within : (n : ℕ) �
   pub promised : (search : Search) {after : Result} → after ≡ search_outcome w v search book b l → PromisedIn w v search book b l after
   promised search e = subst⁻¹ (PromisedIn w v search book b l) e (met search)
 
--- ---- what is promised of a book that passed, by its lists
-pub from-lists : {w : ℕ} {v : Window} {search : Search} (book : Book) {b : Block} {l : Lent} {r : Result} → book_refusal book ≡ 0 → PromisedIn w v search (listed book) b l r → PromisedIn w v search book b l r
-from-lists {w} {v} {search} book {b} {l} {r} ok P = subst⁻¹ (λ (k : Book). PromisedIn w v search k b l r) (by-lists book ok) P
+-- ---- what is promised of the checked book is promised of the view
+pub for-book : {w : ℕ} {v : Window} {search : Search} {checked book : Book} {b : Block} {l : Lent} {r : Result} → checked ≡ book → PromisedIn w v search checked b l r → PromisedIn w v search book b l r
+for-book {w} {v} {search} {checked} {book} {b} {l} {r} e P = subst (λ (k : Book). PromisedIn w v search k b l r) e P
 
 -- ---- document 01's window
 pub whole : {w : ℕ} {search : Search} {book : Book} {b : Block} {l : Lent} {r : Result} → PromisedIn w (window_for 1024 (covered b)) search book b l r → Promised w search book b l r

@@ -12,7 +12,7 @@ use Rattle.trellis.specs.Demand.{RefusedExactly, LeastAnswered, NeverDearer, AsW
 use Rattle.trellis.specs.Outcome as Trellis
 use Rattle.weights.specs.Window.{window_of}
 use Rattle.weights.specs.declared.Window.{Window}
-use Rattle.searches.specs.declared.Asked.{Asked}
+use Rattle.block_checks.specs.declared.Asked.{Asked}
 use Rattle.searches.specs.declared.Search.{Search}
 use Rattle.searches.specs.declared.Search.TheVariants.{Greedy, Beam, Trellis, Unfactored}
 

@@ -1,6 +1,6 @@
 -- Where each byte of a printed line comes from. Assumes nothing.
-use mathlib.Core.Path.{◌≡◌, refl, sym, ◌∙◌, ap}
-use mathlib.Core.Bool.{Bool, true, false}
+use mathlib.Core.Path.{◌≡◌, refl, ◌∙◌, ap}
+use mathlib.Core.Bool.{Bool, true}
 use borrow.Author.Tests.{eqb-true}
 use Rattle.laws.proofs.Tests.{and_left}
 use mathlib.Core.List.{List, [], ◌∷◌, ◌++◌}
@@ -9,15 +9,15 @@ use native.Mathlib.Omega.{arith}
 use lib.ListN.{length, get_or, set, length-set, length-append, get_or-append}
 use native.Mathlib.Numerals.{add-one}
 use lib.Seq.{get_or-append-add}
-use Rattle.answers.specs.declared.answer.Number.{Number}
-use Rattle.answers.specs.declared.answer.Number.TheVariants.{Value, Refused}
+use Rattle.std.proofs.Common.{Result, Ok, Err}
+use Rattle.refusals.specs.declared.Refusal.{Refusal}
 use Rattle.sheet.specs.Column.{newline, column}
 use Rattle.sheet.specs.Line.{context_of, fifth, printed_line, laid, is_line, printed}
 
-fifth-length : (answer : Number) → length (fifth answer) ≡ 6
+fifth-length : (answer : Result ℕ Refusal) → length (fifth answer) ≡ 6
 unfolding column
-fifth-length (Value n) = refl
-fifth-length (Refused n) = refl
+fifth-length (Ok n) = refl
+fifth-length (Err n) = refl
 
 -- the byte at i of a list that follows n others
 past : (xs ys : List ℕ) (n i : ℕ) → length xs ≡ n → n ≤ i → get_or (xs ++ ys) i 0 ≡ get_or ys (i - n) 0

@@ -1,15 +1,14 @@
 -- A line of the context sheet (document 01), and what is printed for it.
-use Rattle.std.specs.Prelude.{ℕ, zero, suc, ◌+◌, Bool, true, false, ◌&&◌, List, [], ◌∷◌, ◌++◌, eqb, length, set, get_or}
+use Rattle.std.specs.Prelude.{ℕ, zero, suc, ◌+◌, Bool, true, false, ◌&&◌, List, [], ◌∷◌, ◌++◌, eqb, length, set, get_or, Result, Ok, Err}
 use Rattle.token_calls.specs.Contexts.{zero_density_reply}
-use Rattle.answers.specs.declared.answer.Number.{Number}
-use Rattle.answers.specs.declared.answer.Number.TheVariants.{Value, Refused}
+use Rattle.refusals.specs.declared.Refusal.{Refusal}
 use Rattle.sheet.specs.Column.{space, digit_zero, minus, newline, column, column_value, is_column}
 
 -- four columns: covered blocks, remaining, k, prev
 unfoldable pub is_line : List ℕ → Bool
 is_line text = eqb (length text) 24 && is_column text 0 && is_column text 6 && is_column text 12 && is_column text 18
 
-unfoldable pub context_of : List ℕ → Number
+unfoldable pub context_of : List ℕ → Result ℕ Refusal
 context_of text =
     zero_density_reply (column_value text 0) (column_value text 6) (column_value text 12) (column_value text 18)
 
@@ -18,9 +17,9 @@ abbrev pub minus_column : ℕ → List ℕ
 minus_column n = space ∷ space ∷ space ∷ space ∷ minus ∷ (digit_zero + n) ∷ []
 
 -- the fifth column: the context, or -1 outside the domain
-abbrev pub fifth : Number → List ℕ
-fifth (Value context) = column context
-fifth (Refused number) = minus_column 1
+abbrev pub fifth : Result ℕ Refusal → List ℕ
+fifth (Ok context) = column context
+fifth (Err refusal) = minus_column 1
 
 abbrev pub printed_line : Bool → List ℕ → List ℕ
 printed_line true text = text ++ (fifth (context_of text) ++ (newline ∷ []))

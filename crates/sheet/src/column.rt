@@ -31,16 +31,15 @@ pub(crate) fn column_char(n: u32, i: usize) -> u8
     last_digit(high)
 }
 
+#[tactic(auto, unfolding(crate::specs::Column::digit_of))]
 fn digit(char: u8) -> u32
     ensures { (result ≡ digit_of char) × (result < 10) }
 {
-    if char < b'0' {
-        return 0;
+    if char.is_ascii_digit() {
+        u32::from(char - b'0')
+    } else {
+        0
     }
-    if char < 58 {
-        return (char - b'0') as u32;
-    }
-    0
 }
 
 pub(crate) fn column_value(line: &[u8], at: usize) -> u32
@@ -60,12 +59,10 @@ pub(crate) fn is_column(line: &[u8], at: usize) -> bool
     ensures { result ≡ is_column line.now at }
 {
     let n = column_value(line, at);
-    let mut i = 0;
-    while i < 6 {
+    for i in 0..6 {
         if line[at + i] != column_char(n, i) {
             return false;
         }
-        i += 1;
     }
     true
 }

@@ -1,5 +1,5 @@
 -- Each way that the call ends meets its contract. Assumes nothing.
-use mathlib.Core.Path.{◌≡◌, refl, sym, ◌∙◌}
+use mathlib.Core.Path.{◌≡◌, sym, ◌∙◌}
 use mathlib.Core.Bool.{true, false, true≢false}
 use Rattle.block.specs.Band.{half_width}
 use Rattle.block.specs.Block.{Block}

@@ -1,6 +1,6 @@
 -- The small product (document 02): blocks of one or two covered blocks, a window of 32 positions, a band of half-width 6. The searches, and what their answers mean, are the first
 -- product's, which are stated over half-width and window. So the least-cost rule, refusal 15 with it, is one for both.
-use Rattle.std.specs.Prelude.{ℕ, ◌≡◌, Bool, true, cond, leb}
+use Rattle.std.specs.Prelude.{◌≡◌, Bool, true, cond, leb}
 use Rattle.block.specs.Band.{half_width}
 use Rattle.block.specs.Block.{Block, covered}
 use Rattle.block.specs.Outcome.{Lent, Result, RefusedKeeps, refused}

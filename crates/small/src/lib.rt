@@ -5,16 +5,15 @@
 ghost use Rattle.std.specs.Prelude.{◌≡◌, ◌*◌, leb};
 ghost use Rattle.block.specs.Block.{block_of};
 ghost use Rattle.block.specs.Outcome.{lent_of, result_of};
-ghost use Rattle.prices.specs.Book.{book_of};
 ghost use Rattle.small.specs.Small.{Promised};
+ghost use Rattle.block.specs.Data.{block_with};
+ghost use Rattle.price_view.specs.View.{book_in};
+ghost use Rattle.block.specs.Answer.{answer_of};
 
-use bias::DequantBias;
-use block::{Answer, Shape};
+use block::{Answer, BlockData};
+use price_view::PriceView;
+use refusals::Refusal;
 use searches::Search;
-use weights::Settings;
-
-// The refusal of more than two covered blocks.
-pub const NOT_SMALL: u32 = 32;
 
 // The window's positions.
 pub const SMALL_WINDOW: usize = 32;
@@ -23,53 +22,33 @@ pub const SMALL_WINDOW: usize = 32;
 pub fn is_small(cx: u32, cy: u32) -> bool
     ensures { result ≡ leb (cx * cy) 2 }
 {
-    cx as u64 * cy as u64 <= 2
+    u64::from(cx) * u64::from(cy) <= 2
 }
 
 // Re-picks the levels of a block by the search that is named. The half-width of the trellis's band is 6. The trellis asks for 448 choice bytes and two rows of 28 floats, the beam
 // for 192 choice bytes.
 pub fn rdoq_small_block(
     search: Search,
-    clusters: u32,
-    map: &[u8],
-    configs: &[u8],
-    symbols: &[f32],
-    ready: &[f32],
-    shape: Shape,
-    settings: Settings,
-    bias: DequantBias,
-    scale: f32,
-    scan: &[u32],
-    source: &[f32],
-    inv_qm: &[f32],
+    view: &PriceView,
+    block: &BlockData,
     levels: &mut [i32],
     choices: &mut [u8],
     row_a: &mut [f32],
     row_b: &mut [f32],
 ) -> Answer
     ensures { Promised search
-        (book_of clusters map.now configs.now symbols.now ready.now)
-        (block_of shape settings bias scale scan.now source.now inv_qm.now levels.old)
+        (book_in view.now)
+        (block_with block.now levels.old)
         (lent_of levels.old choices.old row_a.old row_b.old)
-        (result_of result levels.new choices.new row_a.new row_b.new) }
+        (result_of (answer_of result) levels.new choices.new row_a.new row_b.new) }
 {
-    if !is_small(shape.cx, shape.cy) {
-        return Answer::Refused(NOT_SMALL);
+    if !is_small(block.shape.cx, block.shape.cy) {
+        return Err(Refusal::NotSmall);
     }
     searches::rdoq_block_in(
         search,
-        clusters,
-        map,
-        configs,
-        symbols,
-        ready,
-        shape,
-        settings,
-        bias,
-        scale,
-        scan,
-        source,
-        inv_qm,
+        view,
+        block,
         levels,
         choices,
         row_a,

@@ -1,5 +1,5 @@
--- Nonzero levels counted from the end. Assumes nothing.
-use mathlib.Core.Path.{◌≡◌, refl, sym, ap, ◌∙◌}
+-- Nonzero levels counted. Assumes nothing.
+use mathlib.Core.Path.{◌≡◌}
 use mathlib.Core.List.{List}
 use Prim.Native.Nat.{ℕ, zero, suc, ◌+◌, ◌-◌, ◌≤◌, ◌<◌, zero-le}
 use native.Mathlib.Omega.{arith}
@@ -15,7 +15,6 @@ unfolding nonzeros_among
 among-most scan levels k zero = zero-le
 among-most scan levels k (suc n) = omega (arith, nz-le (level_at scan levels k), among-most scan levels (suc k) n)
 
--- the last position's, and so on to the front
 pub among_none : (scan : List ℕ) (levels : List ℤ) (size : ℕ) → nonzeros_among scan levels size (size - size) ≡ 0
 unfolding nonzeros_among
 among_none scan levels size =
@@ -27,11 +26,3 @@ unfolding nonzeros_among
 among_first scan levels size k h =
     let one : size - k ≡ suc (size - (k + 1)) = omega arith in
     rw (one, add-one)
-
--- one position nearer to the front
-pub among-back : (scan : List ℕ) (levels : List ℤ) (size k count n : ℕ) → 0 < k → k ≤ size → count ≡ nonzeros_among scan levels k (size - k) → n ≡ nz (level_at scan levels (k - 1))
-    → count + n ≡ nonzeros_among scan levels (k - 1) (size - (k - 1))
-among-back scan levels size k count n some most e f =
-    let again : k - 1 + 1 ≡ k = omega arith in
-    let first = rw again at (among_first scan levels size (k - 1) (omega arith)) in
-    omega (arith, first)

@@ -5,7 +5,7 @@ use Prim.Native.Nat.{ℕ, ◌≤◌, ◌<◌}
 use native.Mathlib.Omega.{arith}
 use lib.Dec.{T}
 use lib.IntN.{ℤ, pos}
-use lib.ListN.{length, get_or, take, length-take}
+use lib.ListN.{length, get_or, length-take}
 use lib.Seq.{get_or-take}
 use lib.Ieee.{Float, nan}
 use mir.Syntax.{w32}
@@ -54,3 +54,15 @@ module _ {c : Candidates} (u : Usable c) where
 
   pub listed-nonzero : (j : ℕ) → j < c.count → (of_z w32 (get_or c.levels j (pos 0)) ≡ 0 → ⊥) → nz (get_or (listed c) j (pos 0)) ≡ 1
   listed-nonzero j h e = ap nz (listed_at j h) ∙ other-nz _ e
+
+  -- the same of a level that was read from the list
+  pub level-listed : (j : ℕ) → j < length (listed c) → T (is_level (get_or (listed c) j (pos 0)))
+  level-listed j h =
+      let below = rw listed-length at h in
+      rw (listed_at j below) (u.levels j below)
+
+  pub back-listed : (j : ℕ) → j < length (listed c) → to_z w32 (of_z w32 (get_or (listed c) j (pos 0))) ≡ get_or (listed c) j (pos 0)
+  back-listed j h = level-back _ (level-listed j h)
+
+  pub zero-listed : (j : ℕ) → j < length (listed c) → of_z w32 (get_or (listed c) j (pos 0)) ≡ 0 → get_or (listed c) j (pos 0) ≡ pos 0
+  zero-listed j h e = is-zero _ (level-sfits _ (level-listed j h)) e

@@ -2,18 +2,17 @@
 use mathlib.Core.Path.{◌≡◌, refl, sym, ap, ◌∙◌}
 use mathlib.Core.Logic.{◌⊎◌, ⊎_elim, inl, inr}
 use mathlib.Core.Bool.{Bool, true, false, cond, ◌&&◌}
-use Prim.Native.Nat.{ℕ, zero, suc, ◌+◌, ◌*◌, ◌≤◌, ◌<◌}
+use Prim.Native.Nat.{ℕ, zero, suc, ◌+◌, ◌≤◌}
 use native.Mathlib.Omega.{arith}
 use native.Mathlib.Nat.{add-zero, not-suc-le-zero, le_of_suc-le-suc, add_assoc}
 use lib.Dec.{eqb}
 use lib.IntN.{ℤ, pos, negsuc}
 use lib.Ieee.{Float, add, mul, binary32}
-use borrow.Author.Tests.{eqb-true, eqb-false, ne_eqb}
+use borrow.Author.Tests.{ne_eqb}
 use Rattle.ac_context.specs.Contexts.{fine_zero_density_contexts_offset, zero_density_context}
 use Rattle.ac_context.proofs.Bounds.{next-context}
-use Rattle.bias.specs.Level.{biased}
-use Rattle.block.specs.Block.{Block, covered, context_of, input_at, ideal}
-use Rattle.block.specs.Cost.{distortion, distortion_of, rate, token_price, local_cost}
+use Rattle.block.specs.Block.{Block, covered, context_of, input_at}
+use Rattle.block.specs.Cost.{distortion, rate, token_price, local_cost}
 use Rattle.least_cost.specs.Position.{nz}
 use Rattle.packing.specs.Signed.{pack_signed}
 use Rattle.prices.specs.Book.{Book, price}

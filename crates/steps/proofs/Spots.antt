@@ -17,7 +17,6 @@ use Rattle.scan.specs.Scan.{level_at}
 use Rattle.weights.specs.Settings.{weight_at, scaled_weight}
 use Rattle.steps.specs.Place.{place_of, nonzero_rate}
 use Rattle.steps.specs.Plan.{Planned, Lists, Offered, Usable, listed}
-use Rattle.steps.specs.declared.Place.{Place}
 use Rattle.steps.specs.declared.reading.Plan.{Plan}
 
 -- the candidates as the leaf hands them over

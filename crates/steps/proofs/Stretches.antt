@@ -20,6 +20,9 @@ use Rattle.least_cost.proofs.Trial.{nz-le}
 use Rattle.least_cost.specs.Position.{nz}
 use Rattle.prices.specs.Book.{Book, book_in, price, cluster_price}
 use Rattle.prices.specs.Checks.{ClusterPassed}
+use Rattle.prices.specs.Contents.{contents}
+use Rattle.prices.specs.declared.book.PriceBook.{PriceBook}
+use Rattle.prices.proofs.Held.{mapped}
 use Rattle.prices.proofs.Passed.{Passed, priced-in}
 use Rattle.scan.specs.Scan.{level_at}
 use Rattle.steps.specs.Plan.{Planned, Coded}
@@ -97,25 +100,22 @@ stretch-price map configs symbols ready b p s k most r i (suc zero) q w sh low h
 stretch-price map configs symbols ready b p s k most r i (suc (suc prev)) q w sh low high from upto flag =
     absurd (not-suc-le-zero (le_of_suc-le-suc flag))
 
--- one of two clusters that have prices has prices
-pub priced-by : (configs : List ℕ) (symbols ready : List Float) (zero one prev cluster : ℕ) → cluster ≡ cond (eqb prev 0) zero one
-    → ClusterPassed configs symbols ready zero → ClusterPassed configs symbols ready one → ClusterPassed configs symbols ready cluster
-priced-by configs symbols ready a b prev cluster e x y = subst⁻¹ (ClusterPassed configs symbols ready) e (go (eqb prev 0))
+-- one of two clusters of a book is one of its clusters
+pub cluster-by : (n zero one prev cluster : ℕ) → cluster ≡ cond (eqb prev 0) zero one → zero < n → one < n → cluster < n
+cluster-by n a b prev cluster e x y = subst⁻¹ (λ k. k < n) e (go (eqb prev 0))
   where
-    go : (t : Bool) → ClusterPassed configs symbols ready (cond t a b)
+    go : (t : Bool) → cond t a b < n
     go true = x
     go false = y
 
--- both clusters of a stretch have prices where the book passed
-pub both-priced : {map configs : List ℕ} {symbols ready : List Float} {p : Plan} {n k : ℕ} {s : Stretch} → Passed (book_in map configs symbols ready) → Coded p → Coefficient p.covered n k 0 → Shared p map k n s
-    → (ClusterPassed configs symbols ready s.zero) × (ClusterPassed configs symbols ready s.one)
-both-priced {map} {configs} {symbols} {ready} {p} {n} {k} {s} book w co sh =
+-- both clusters of a stretch are the book's
+pub both-clusters : (book : PriceBook) {p : Plan} {n k : ℕ} {s : Stretch} → Coded p → Coefficient p.covered n k 0 → Shared p book.map.now k n s
+    → (s.zero < (contents book).clusters) × (s.one < (contents book).clusters)
+both-clusters book {p} {n} {k} {s} w co sh =
     let few = pair-below (covered-some w.covers) co in
-    let zero = book.sound.mapped (p.offset + zero_density_context p.covered n k 0) (omega (arith, few, w.offset)) in
-    let one = book.sound.mapped (p.offset + zero_density_context p.covered n k 1) (omega (arith, few, next-context p.covered n k, w.offset)) in (
-      priced-in book (rw (sh.zero_is n k sh.counted (le_refl n) (le_refl k) sh.here) at zero),
-      priced-in book (rw (sh.one_is n k sh.counted (le_refl n) (le_refl k) sh.here) at one),
-    )
+    let zero = mapped book (p.offset + zero_density_context p.covered n k 0) (omega (arith, few, w.offset)) in
+    let one = mapped book (p.offset + zero_density_context p.covered n k 1) (omega (arith, few, next-context p.covered n k, w.offset)) in
+    (rw (sh.zero_is n k sh.counted (le_refl n) (le_refl k) sh.here) at zero, rw (sh.one_is n k sh.counted (le_refl n) (le_refl k) sh.here) at one)
 
 -- the next token is a coefficient's, where nonzero levels are left
 pub standing-coefficient : {scan : List ℕ} {levels : List ℤ} {t : Tail} {c : ℕ} → Standing scan levels t → length scan ≡ 64 * c → c ≤ t.k → (t.remaining ≡ 0 → ⊥) → Coefficient c t.remaining t.k 0

@@ -1,11 +1,13 @@
 -- A test of a level against 0, as what it says of the level. Assumes nothing.
+use mathlib.Core.Bool.{Bool, true, false, not}
 use mathlib.Core.Path.{◌≡◌, refl, ap, ◌∙◌, subst⁻¹}
-use Prim.Native.Nat.{ℕ, zero, suc, ◌≤◌}
+use Prim.Native.Nat.{zero, suc, ◌+◌, ◌≤◌}
 use native.Mathlib.Omega.{arith}
-use lib.Dec.{T, leb→le, le→leb}
+use borrow.Author.Tests.{eqb-true, eqb-false}
+use lib.Dec.{T, eqb, leb→le, le→leb}
 use lib.IntN.{ℤ, pos, negsuc, nat_abs}
 use mir.Syntax.{w32}
-use mir.Val.{SFits, of_z, to_z}
+use mir.Val.{SFits, of_z, to_z, bool_byte}
 use Rattle.bias.specs.Level.{is_level}
 use Rattle.packing.specs.Signed.{pack_signed}
 use Rattle.candidates.specs.Candidates.{is_current}
@@ -27,6 +29,21 @@ zero-nz q f e = ap nz (is-zero q f e)
 
 pub other-nz : (q : ℤ) → (of_z w32 q ≡ 0 → ⊥) → nz q ≡ 1
 other-nz q h = nz-of q (λ e. h (ap (of_z w32) e))
+
+-- a test as a number
+pub nonzero-byte : (q : ℤ) → SFits w32 q → bool_byte (not (eqb (of_z w32 q) 0)) ≡ nz q
+nonzero-byte q f = go (eqb (of_z w32 q) 0) refl
+  where
+    go : (t : Bool) → eqb (of_z w32 q) 0 ≡ t → bool_byte (not t) ≡ nz q
+    go true e = rw (zero-nz q f (eqb-true _ 0 e))
+    go false e = rw (other-nz q (eqb-false _ 0 e))
+
+pub zero-byte : (q : ℤ) → SFits w32 q → bool_byte (eqb (of_z w32 q) 0) + nz q ≡ 1
+zero-byte q f = go (eqb (of_z w32 q) 0) refl
+  where
+    go : (t : Bool) → eqb (of_z w32 q) 0 ≡ t → bool_byte t + nz q ≡ 1
+    go true e = rw (zero-nz q f (eqb-true _ 0 e))
+    go false e = rw (other-nz q (eqb-false _ 0 e))
 
 -- a packed level is a value that has a price
 pub packed-value : (q : ℤ) → T (is_level q) → pack_signed q ≤ 131071

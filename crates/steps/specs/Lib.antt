@@ -1,3 +1,4 @@
 pub mod Place
 pub mod Plan
 pub mod Tail
+pub mod Best

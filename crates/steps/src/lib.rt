@@ -1,22 +1,25 @@
 // The steps that the searches share.
 #![tactic(auto)]
 
+pub mod best;
 pub mod reading;
 mod tail;
 pub mod tokens;
 
-ghost use Rattle.std.specs.Prelude.{◌≡◌, true, false, ◌+◌, ◌-◌, ◌*◌, ◌<◌, ◌≤◌, T, eqb, length, get_or, set, nat_abs};
+ghost use Rattle.std.specs.Prelude.{◌≡◌, true, false, cond, ◌+◌, ◌-◌, ◌*◌, ◌<◌, ◌≤◌, T, eqb, length, get_or, set, nat_abs};
 ghost use Rattle.ac_context.specs.Contexts.{Coefficient, Covered};
 ghost use Rattle.bias.specs.Level.{is_level};
 ghost use Rattle.block.specs.Block.{ideal_at};
 ghost use Rattle.least_cost.specs.Position.{nz};
-ghost use Rattle.prices.specs.Book.{book_in, price};
-ghost use Rattle.prices.specs.Checks.{book_refusal};
+ghost use Rattle.prices.specs.Book.{price};
+ghost use Rattle.prices.specs.Contents.{contents};
 ghost use Rattle.scan.specs.Scan.{level_at};
 ghost use Rattle.steps.specs.Place.{distortion_at, rate_at, context_at, rated_in, local_in};
 
 use bias::DequantBias;
+use block::BlockData;
 use prices::Pair;
+use prices::book::PriceBook;
 
 // All that prices a level at one window position: the scan position, the covered blocks and their logarithm, the first coefficient
 // context, the distortion's weight, the ideal, the bias, and the rates of the level 0 and of any other.
@@ -37,17 +40,24 @@ pub struct Place {
 pub fn nonzero(level: i32) -> usize
     ensures { result ≡ nz level }
 {
-    if level == 0 { 0 } else { 1 }
+    usize::from(level != 0)
 }
 
-pub fn ideal_at(scan: &[u32], source: &[f32], inv_qm: &[f32], scale: f32, k: usize) -> f32
-    requires k_in_bounds { k < length scan.now }
-    requires k_in_bounds_2 { get_or scan.now k 0 < length source.now }
-    requires k_in_bounds_3 { get_or scan.now k 0 < length inv_qm.now }
-    ensures { result ≡ ideal_at scan.now source.now inv_qm.now scale k }
+// The one of two that is for `prev`.
+pub fn by_prev<T: Copy>(prev: usize, zero: T, one: T) -> T
+    ensures { result ≡ cond (eqb prev 0) zero one }
 {
-    let at = scan[k] as usize;
-    source[at] * inv_qm[at] * scale
+    if prev == 0 { zero } else { one }
+}
+
+pub fn ideal_at(block: &BlockData, scale: f32, k: usize) -> f32
+    requires k_in_bounds { k < length block.now.scan.now }
+    requires k_in_bounds_2 { get_or block.now.scan.now k 0 < length block.now.source.now }
+    requires k_in_bounds_3 { get_or block.now.scan.now k 0 < length block.now.inv_qm.now }
+    ensures { result ≡ ideal_at block.now.scan.now block.now.source.now block.now.inv_qm.now scale k }
+{
+    let at = block.scan[k] as usize;
+    block.source[at] * block.inv_qm[at] * scale
 }
 
 pub fn level_at(scan: &[u32], levels: &[i32], k: usize) -> i32
@@ -101,24 +111,16 @@ impl Place {
             + ac_context::zero_density_context(remaining, self.k, self.covered, self.log2, 0)
     }
 
-    // The rated prices of a level's token for `prev` 0 and 1.
-    pub fn rated_pair(
-        self,
-        map: &[u8],
-        configs: &[u8],
-        symbols: &[f32],
-        ready: &[f32],
-        context: usize,
-        level: i32,
-    ) -> Pair
-        requires ready_value { book_refusal (book_in map.now configs.now symbols.now ready.now) ≡ 0 }
+    // The rated prices of a level's token for `prev` 0 and 1. A call of its own would cost the searches more.
+    #[inline(always)]
+    pub fn rated_pair(self, book: &PriceBook, context: usize, level: i32) -> Pair
         requires context_bound { context + 1 < 14850 }
         requires t { T (is_level level) }
-        ensures { (result.first ≡ rated_in (book_in map.now configs.now symbols.now ready.now) self context 0 level)
-            × (result.second ≡ rated_in (book_in map.now configs.now symbols.now ready.now) self context 1 level) }
+        ensures { (result.first ≡ rated_in (contents book.now) self context 0 level)
+            × (result.second ≡ rated_in (contents book.now) self context 1 level) }
     {
         let value = packing::pack_signed(level);
-        let bits = prices::token_bits_pair(map, configs, symbols, ready, context, value);
+        let bits = book.token_bits_pair(context, value);
         let rate = self.rate(level);
         Pair {
             first: rate * bits.first,
@@ -127,22 +129,12 @@ impl Place {
     }
 
     // The local costs of a level for `prev` 0 and 1, its distortion at hand.
-    pub fn local_pair(
-        self,
-        map: &[u8],
-        configs: &[u8],
-        symbols: &[f32],
-        ready: &[f32],
-        context: usize,
-        level: i32,
-        distortion: f32,
-    ) -> Pair
-        requires ready_value { book_refusal (book_in map.now configs.now symbols.now ready.now) ≡ 0 }
+    pub fn local_pair(self, book: &PriceBook, context: usize, level: i32, distortion: f32) -> Pair
         requires context_bound { context + 1 < 14850 }
         requires t { T (is_level level) }
         requires distortion_value { distortion ≡ distortion_at self level }
-        ensures { (result.first ≡ local_in (book_in map.now configs.now symbols.now ready.now) self context 0 level)
-            × (result.second ≡ local_in (book_in map.now configs.now symbols.now ready.now) self context 1 level) }
+        ensures { (result.first ≡ local_in (contents book.now) self context 0 level)
+            × (result.second ≡ local_in (contents book.now) self context 1 level) }
     {
         if context == 0 {
             return Pair {
@@ -150,7 +142,7 @@ impl Place {
                 second: distortion,
             };
         }
-        let rated = self.rated_pair(map, configs, symbols, ready, context, level);
+        let rated = self.rated_pair(book, context, level);
         Pair {
             first: distortion + rated.first,
             second: distortion + rated.second,

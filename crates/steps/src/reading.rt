@@ -12,7 +12,7 @@ ghost use Rattle.steps.specs.Plan.{Planned, Coded, Lists, Readable, Offered, lis
 
 use crate::Place;
 use bias::DequantBias;
-use block::Shape;
+use block::{BlockData, Shape};
 use weights::{Settings, Window};
 
 // What a block's shape, settings, bias and scale give; `far_weight` is the weight of each position past the base length.
@@ -77,23 +77,15 @@ pub fn plan_of(shape: Shape, settings: Settings, bias: DequantBias, scale: f32, 
 
 impl Plan {
     // What window position i offers, its candidates listed in `offered`; the walk back asks for no more.
-    pub fn offer(
-        self,
-        scan: &[u32],
-        source: &[f32],
-        inv_qm: &[f32],
-        levels: &[i32],
-        i: usize,
-        offered: &mut [i32; 5],
-    ) -> Offer
-        requires readable { Readable scan.now source.now inv_qm.now levels.now self.scale (self.covered + i) }
+    pub fn offer(self, block: &BlockData, levels: &[i32], i: usize, offered: &mut [i32; 5]) -> Offer
+        requires readable { Readable block.now.scan.now block.now.source.now block.now.inv_qm.now levels.now self.scale (self.covered + i) }
         requires i_bound { self.covered + i < 65536 }
-        ensures offered { (b : Block) → Lists b scan.now source.now inv_qm.now levels.now → Planned b self → Offered self.window b i result offered.new }
-        ensures usable { (Usable (in_array result.count offered.new)) × (result.level ≡ level_at scan.now levels.now (self.covered + i)) }
+        ensures offered { (b : Block) → Lists b block.now.scan.now block.now.source.now block.now.inv_qm.now levels.now → Planned b self → Offered self.window b i result offered.new }
+        ensures usable { (Usable (in_array result.count offered.new)) × (result.level ≡ level_at block.now.scan.now levels.now (self.covered + i)) }
     {
         let k = self.covered + i;
-        let ideal = crate::ideal_at(scan, source, inv_qm, self.scale, k);
-        let level = crate::level_at(scan, levels, k);
+        let ideal = crate::ideal_at(block, self.scale, k);
+        let level = crate::level_at(block.scan, levels, k);
         let window = self.window;
         Offer {
             ideal,
@@ -149,9 +141,7 @@ pub fn distortions(place: Place, levels: &[i32; 5], count: usize, distortion: &m
     requires distortion_len { length distortion.old ≡ 5 }
     ensures { Each (distortion_at place) (listed (in_array count levels.now)) distortion.new }
 {
-    let mut j = 0;
-    while j < count {
-        distortion[j] = place.distortion(levels[j]);
-        j += 1;
+    for (j, &level) in levels[..count].iter().enumerate() {
+        distortion[j] = place.distortion(level);
     }
 }

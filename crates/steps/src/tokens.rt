@@ -7,8 +7,7 @@ ghost use Rattle.bias.specs.Level.{is_level};
 ghost use Rattle.block.specs.Block.{Block, nonzeros_among};
 ghost use Rattle.block.specs.Cost.{token_price, tokens_from, count_cost};
 ghost use Rattle.candidates.specs.Candidates.{is_current};
-ghost use Rattle.prices.specs.Book.{book_in};
-ghost use Rattle.prices.specs.Checks.{book_refusal};
+ghost use Rattle.prices.specs.Contents.{contents};
 ghost use Rattle.least_cost.specs.Position.{nz};
 ghost use Rattle.scan.specs.Scan.{Perm, sum_to};
 ghost use Rattle.steps.specs.Plan.{Planned, Coded, Whole};
@@ -17,13 +16,7 @@ use crate::reading::Plan;
 use crate::tail;
 use crate::tail::Tail;
 use prices::Pair;
-
-// 1 for a level of 0.
-fn is_zero(level: i32) -> u32
-    ensures { result + nz level ≡ 1 }
-{
-    if level == 0 { 1 } else { 0 }
-}
+use prices::book::PriceBook;
 
 // The nonzero levels of a list, in its own order: so the loop is vectorised.
 fn nonzeros_in(levels: &[i32]) -> usize
@@ -31,10 +24,8 @@ fn nonzeros_in(levels: &[i32]) -> usize
     ensures { result ≡ sum_to (λ i. nz (get_or levels.now i (pos 0))) (length levels.now) }
 {
     let mut count = levels.len() as u32;
-    let mut i = 0;
-    while i < levels.len() {
-        count -= is_zero(levels[i]);
-        i += 1;
+    for &level in levels {
+        count -= u32::from(level == 0);
     }
     count as usize
 }
@@ -45,10 +36,8 @@ pub fn nonzeros_between(scan: &[u32], levels: &[i32], from: usize, end: usize) -
     requires from_le_end { (from ≤ end) × (end ≤ length scan.now) }
     ensures { result ≡ nonzeros_among scan.now levels.now from (end - from) }
 {
-    let mut k = end;
     let mut count = 0;
-    while from < k {
-        k -= 1;
+    for k in from..end {
         count += crate::nonzero(crate::level_at(scan, levels, k));
     }
     count
@@ -68,50 +57,39 @@ pub fn nonzeros_from(scan: &[u32], levels: &[i32], from: usize) -> usize
 
 // The price of a level's token.
 pub fn token_bits(
-    map: &[u8],
-    configs: &[u8],
-    symbols: &[f32],
-    ready: &[f32],
+    book: &PriceBook,
     plan: Plan,
     remaining: usize,
     k: usize,
     prev: usize,
     level: i32,
 ) -> f32
-    requires ready_value { book_refusal (book_in map.now configs.now symbols.now ready.now) ≡ 0 }
     requires coded { Coded plan }
     requires coefficient { Coefficient plan.covered remaining k prev }
     requires t { T (is_level level) }
-    ensures { (b : Block) → Planned b plan → result ≡ token_price (book_in map.now configs.now symbols.now ready.now) b remaining k prev level }
+    ensures { (b : Block) → Planned b plan → result ≡ token_price (contents book.now) b remaining k prev level }
 {
     let context = plan.offset
         + ac_context::zero_density_context(remaining, k, plan.covered, plan.log2, prev);
     let value = packing::pack_signed(level);
-    prices::token_bits(map, configs, symbols, ready, context, value)
+    book.token_bits(context, value)
 }
 
 // lambda times the price of a level's token.
 fn token_cost(
-    map: &[u8],
-    configs: &[u8],
-    symbols: &[f32],
-    ready: &[f32],
+    book: &PriceBook,
     plan: Plan,
     remaining: usize,
     k: usize,
     prev: usize,
     level: i32,
 ) -> f32
-    requires ready_value { book_refusal (book_in map.now configs.now symbols.now ready.now) ≡ 0 }
     requires coded { Coded plan }
     requires coefficient { Coefficient plan.covered remaining k prev }
     requires t { T (is_current level) }
-    ensures { (b : Block) → Planned b plan → result ≡ mul binary32 plan.lambda (token_price (book_in map.now configs.now symbols.now ready.now) b remaining k prev level) }
+    ensures { (b : Block) → Planned b plan → result ≡ mul binary32 plan.lambda (token_price (contents book.now) b remaining k prev level) }
 {
-    plan.lambda
-        * token_bits(
-            map, configs, symbols, ready, plan, remaining, k, prev, level,
-        )
+    plan.lambda * token_bits(book, plan, remaining, k, prev, level)
 }
 
 // `prev` at the first position.
@@ -123,50 +101,30 @@ pub fn first_prev(covered: usize, count: usize) -> usize
 }
 
 // lambda times the price of the count.
-pub fn count_cost(
-    map: &[u8],
-    configs: &[u8],
-    symbols: &[f32],
-    ready: &[f32],
-    plan: Plan,
-    count: usize,
-) -> f32
-    requires ready_value { book_refusal (book_in map.now configs.now symbols.now ready.now) ≡ 0 }
+pub fn count_cost(book: &PriceBook, plan: Plan, count: usize) -> f32
     requires coded { Coded plan }
     requires count_bound { count ≤ 65536 }
-    ensures { (b : Block) → Planned b plan → result ≡ count_cost (book_in map.now configs.now symbols.now ready.now) b count }
+    ensures { (b : Block) → Planned b plan → result ≡ count_cost (contents book.now) b count }
 {
-    plan.lambda
-        * prices::token_bits(
-            map,
-            configs,
-            symbols,
-            ready,
-            plan.count_context,
-            count as u32,
-        )
+    plan.lambda * book.token_bits(plan.count_context, count as u32)
 }
 
 // What the levels from scan position `from` on cost, `count` of them nonzero, with `prev` 0 and 1. `prev` decides the first token alone, so that all others are priced once.
 pub fn tail_costs(
-    map: &[u8],
-    configs: &[u8],
-    symbols: &[f32],
-    ready: &[f32],
+    book: &PriceBook,
     plan: Plan,
     scan: &[u32],
     levels: &[i32],
     from: usize,
     count: usize,
 ) -> Pair
-    requires ready_value { book_refusal (book_in map.now configs.now symbols.now ready.now) ≡ 0 }
     requires coded { Coded plan }
     requires whole { Whole plan.covered from scan.now levels.now }
     requires covered_le_from { (plan.covered ≤ from) × (from ≤ length scan.now) }
     requires count_value { count ≡ nonzeros_among scan.now levels.now from (length scan.now - from) }
     ensures { (b : Block) → scan.now ≡ b.scan → levels.now ≡ b.levels → Planned b plan
-        → (result.first ≡ tokens_from (book_in map.now configs.now symbols.now ready.now) b (length scan.now - from) count from 0 (fin false 0 (pos 0)))
-        × (result.second ≡ tokens_from (book_in map.now configs.now symbols.now ready.now) b (length scan.now - from) count from 1 (fin false 0 (pos 0))) }
+        → (result.first ≡ tokens_from (contents book.now) b (length scan.now - from) count from 0 (fin false 0 (pos 0)))
+        × (result.second ≡ tokens_from (contents book.now) b (length scan.now - from) count from 1 (fin false 0 (pos 0))) }
 {
     if count == 0 {
         return Pair {
@@ -175,16 +133,13 @@ pub fn tail_costs(
         };
     }
     let level = crate::level_at(scan, levels, from);
-    let zero = token_cost(map, configs, symbols, ready, plan, count, from, 0, level);
-    let one = token_cost(map, configs, symbols, ready, plan, count, from, 1, level);
+    let zero = token_cost(book, plan, count, from, 0, level);
+    let one = token_cost(book, plan, count, from, 1, level);
     let nonzero = crate::nonzero(level);
     let k = from + 1;
     let remaining = count - nonzero;
     tail::add_tokens(
-        map,
-        configs,
-        symbols,
-        ready,
+        book,
         plan,
         scan,
         levels,

@@ -1,10 +1,24 @@
 -- What the public calls on a store promise: reply and every lent number by a definition, and what that means as a plain map.
-use Rattle.std.specs.Prelude.{ℕ, zero, suc, ◌≡◌, List, [], length, take}
+use Rattle.std.specs.Prelude.{ℕ, zero, suc, ◌≡◌, cond, List, [], ltb, length, take, Result, Ok, Err}
+use Rattle.refusals.specs.Numbers.{number_of}
+use Rattle.refusals.specs.declared.Refusal.{Refusal}
 use Rattle.store_map.specs.Map.{Reply, reply}
 use Rattle.store_map.specs.Map as Map
-use Rattle.store_map.specs.Store.{Store, Outcome, outcome_of, put_outcome, drop_outcome, run_in, read_refusal, read_tokens, Kept}
-use Rattle.store_calls.specs.declared.store.Length.{Length}
-use Rattle.store_calls.specs.declared.store.Length.TheVariants.{Value, Refused}
+use Rattle.store_map.specs.Store.{Store, right, outcome_of, put_outcome, drop_outcome, run_in, read_refusal, read_tokens, Kept}
+
+-- what each call refuses first: the number, or 0 where it refuses neither
+unfoldable pub lent_refusal : Store → ℕ → ℕ
+lent_refusal s k = cond (right s) (cond (ltb k 1024) 0 33) 37
+
+-- the length of a run, or the number of the refusal
+pub data Length : Type 0 where
+  Value : ℕ → Length
+  Refused : ℕ → Length
+
+-- what the code answers, by number
+abbrev pub length_of : Result ℕ Refusal → Length
+length_of (Ok n) = Value n
+length_of (Err refusal) = Refused (number_of refusal)
 
 pub record Put (s : Store) (k : ℕ) (tokens : List ℕ) (code : ℕ) (t : Store) : Type 0 where
   -- code, room and record

@@ -1,85 +1,69 @@
 // A store of token runs, each under a block number below 1,024 (ticket 14). The caller keeps room and record and hands both on as the last call left them.
 // `rec` has 3,073 numbers, all 0 in an empty store: how many runs, then number, start and length of each, in the order in which they stand in room.
+ghost use Rattle.std.specs.Prelude.{◌≡◌};
+ghost use Rattle.refusals.specs.Numbers.{code_of};
 ghost use Rattle.store_map.specs.Store.{store_of};
-ghost use Rattle.store_calls.specs.Calls.{Put, Dropped, Read};
+ghost use Rattle.store_calls.specs.Calls.{Put, Dropped, Read, length_of, lent_refusal};
 
-// The refusals: a record that is not a store's, a block number that is not below 1,024, too many live tokens, a number that is not held, a buffer that is too short.
-pub const NO_STORE: u32 = 37;
+use refusals::Refusal;
 
-pub const NUMBER: u32 = 33;
-
-pub const FULL: u32 = 34;
-
-pub const NOT_HELD: u32 = 35;
-
-pub const SHORT: u32 = 36;
-
-// The length of a run, or the number of the refusal.
-#[derive(Clone, Copy)]
-pub enum Length {
-    Value(usize),
-    Refused(u32),
-}
-
-// Holds the tokens under a block number, in place of a run already there, and answers 0; or refuses by number, and changes nothing.
-pub fn put(room: &mut [u64], rec: &mut [u64], block: u32, tokens: &[u64]) -> u32
-    ensures { Put (store_of room.old rec.old) block tokens.now result (store_of room.new rec.new) }
+// What each call asks first: the record is a store's, and the block number is below 1,024.
+#[tactic(auto, unfolding(crate::specs::Calls::lent_refusal, store_map::specs::Store::right))]
+fn check_lent(room: &[u64], rec: &[u64], block: u32) -> Result<(), Refusal>
+    ensures { code_of result ≡ lent_refusal (store_of room.now rec.now) block }
 {
     if !store_record::valid(rec, room.len()) {
-        return NO_STORE;
+        return Err(Refusal::StoreRecord);
     }
     if block >= 1024 {
-        return NUMBER;
+        return Err(Refusal::BlockNumber);
     }
+    Ok(())
+}
+
+// Holds the tokens under a block number, in place of a run already there; or refuses, and changes nothing.
+pub fn put(room: &mut [u64], rec: &mut [u64], block: u32, tokens: &[u64]) -> Result<(), Refusal>
+    ensures { Put (store_of room.old rec.old) block tokens.now (code_of result) (store_of room.new rec.new) }
+{
+    check_lent(room, rec, block)?;
     let number = block as u64;
     let live = store_passes::live_but(rec, rec[0] as usize, number);
     if tokens.len() > room.len() - live {
-        return FULL;
+        return Err(Refusal::StoreFull);
     }
     store_hold::hold(room, rec, number, tokens);
-    0
+    Ok(())
 }
 
-// Gives the room of a run back and answers 0; or refuses by number, and changes nothing.
-pub fn drop(room: &[u64], rec: &mut [u64], block: u32) -> u32
-    ensures { Dropped (store_of room.now rec.old) block result (store_of room.now rec.new) }
+// Gives the room of a run back; or refuses, and changes nothing.
+pub fn drop(room: &[u64], rec: &mut [u64], block: u32) -> Result<(), Refusal>
+    ensures { Dropped (store_of room.now rec.old) block (code_of result) (store_of room.now rec.new) }
 {
-    if !store_record::valid(rec, room.len()) {
-        return NO_STORE;
-    }
-    if block >= 1024 {
-        return NUMBER;
-    }
+    check_lent(room, rec, block)?;
     let number = block as u64;
     let count = rec[0] as usize;
-    if store_passes::find(rec, count, number) == count {
-        return NOT_HELD;
+    if store_passes::find(rec, count, number).is_none() {
+        return Err(Refusal::NotHeld);
     }
     let left = store_passes::remove(rec, count, number);
     rec[0] = left as u64;
-    0
+    Ok(())
 }
 
-// Copies a run to the front of `tokens` and answers its length; or refuses by number, and changes nothing.
-pub fn read(room: &[u64], rec: &[u64], block: u32, tokens: &mut [u64]) -> Length
-    ensures { Read (store_of room.now rec.now) block tokens.old result tokens.new }
+// Copies a run to the front of `tokens` and answers its length; or refuses, and changes nothing.
+pub fn read(room: &[u64], rec: &[u64], block: u32, tokens: &mut [u64]) -> Result<usize, Refusal>
+    ensures { Read (store_of room.now rec.now) block tokens.old (length_of result) tokens.new }
 {
-    if !store_record::valid(rec, room.len()) {
-        return Length::Refused(NO_STORE);
-    }
-    if block >= 1024 {
-        return Length::Refused(NUMBER);
-    }
+    check_lent(room, rec, block)?;
     let count = rec[0] as usize;
-    let i = store_passes::find(rec, count, block as u64);
-    if i == count {
-        return Length::Refused(NOT_HELD);
-    }
+    let Some(i) = store_passes::find(rec, count, block as u64) else {
+        return Err(Refusal::NotHeld);
+    };
     let start = rec[3 * i + 2] as usize;
     let size = rec[3 * i + 3] as usize;
     if size > tokens.len() {
-        return Length::Refused(SHORT);
+        return Err(Refusal::BufferShort);
     }
     store_room::copy_run(room, start, size, tokens, 0);
-    Length::Value(size)
+    Ok(size)
 }

@@ -1,21 +1,21 @@
 -- Tokens put into a store, step by step. Assumes nothing.
-use Prim.Native.Nat.{ℕ, zero, suc, ◌+◌, ◌-◌, ◌*◌, ◌<◌, ◌≤◌}
-use mathlib.Core.Path.{◌≡◌, refl, sym, ap, ap₂, subst, ◌∙◌}
+use Prim.Native.Nat.{ℕ, ◌+◌, ◌-◌, ◌*◌, ◌<◌, ◌≤◌}
+use mathlib.Core.Path.{◌≡◌, refl, sym, ap, ap₂, ◌∙◌}
 use mathlib.Core.Bool.{Bool, true, false, cond}
 use mathlib.Core.List.{List, [], ◌∷◌, ◌++◌}
 use native.Mathlib.Omega.{arith}
-use borrow.Author.Tests.{leb-true, le-leb, leb-false}
+use borrow.Author.Tests.{leb-true, leb-false}
 use lib.Dec.{leb}
 use lib.ListN.{length, get_or, set, take, drop, length-append}
 use lib.Seq.{take-length}
 use Rattle.store_record.specs.Placed.{placed}
-use Rattle.store_record.specs.Runs.{Run, run, runs_from, runs_of, headed, recorded, in_order, numbered, holds, others, live, end_of, packed}
+use Rattle.store_record.specs.Runs.{Run, run, runs_from, runs_of, headed, recorded, in_order, others, live, end_of, packed}
 use Rattle.store_record.specs.Tokens.{joined}
 use Rattle.store_record.proofs.Headed.{headed-count, headed-runs, headed-set, headed-length, headed-more, headed-over}
 use Rattle.store_record.proofs.Order.{order-others, order-end, number-others, out, fewer, packed-length}
 use Rattle.store_room.specs.Compacted.{Compacted}
 use Rattle.store_passes.specs.Found.{Removed}
-use Rattle.store_map.specs.Store.{Store, store_of, right, Space, space, stored}
+use Rattle.store_map.specs.Store.{store_of, right, Space, space, stored}
 use Rattle.store_map.proofs.Stores.{Passed, passed, Spaced, spaced}
 use Rattle.store_hold.specs.Made.{Made}
 

@@ -1,15 +1,17 @@
 -- The passes over a record, turn by turn. Assumes nothing.
-use Prim.Native.Nat.{ℕ, zero, suc, ◌+◌, ◌-◌, ◌*◌, ◌<◌, ◌≤◌}
-use mathlib.Core.Path.{◌≡◌, refl, sym, ap, ap₂, subst, ◌∙◌}
-use mathlib.Core.Bool.{Bool, true, false, cond, ◌||◌, true≢false}
-use mathlib.Core.List.{List, [], ◌∷◌, ◌++◌, append-nil}
+use Prim.Native.Nat.{ℕ, ◌+◌, ◌-◌, ◌*◌, ◌<◌, ◌≤◌}
+use mathlib.Core.Path.{◌≡◌, refl, sym, ap, ap₂, ◌∙◌}
+use mathlib.Core.Bool.{Bool, true, false, cond}
+use mathlib.Core.List.{List, [], ◌∷◌, ◌++◌}
 use native.Mathlib.Omega.{arith}
-use native.Mathlib.Nat.{not-suc-le-zero, le_antisymm}
-use borrow.Author.Tests.{eq-eqb, ne_eqb, eqb-true, eqb-false}
+use native.Mathlib.Nat.{le_antisymm}
+use borrow.Author.Tests.{eq-eqb, ne_eqb}
 use lib.Dec.{eqb}
 use lib.ListN.{length, get_or, set, length-append}
+use Rattle.std.proofs.Common.{Option, Some, None}
+use Rattle.std.proofs.lemmas.Option.{none-some}
 use Rattle.store_record.specs.Placed.{placed}
-use Rattle.store_record.specs.Runs.{Run, run, run_at, runs_from, headed, holds, others, run_under, live, end_of}
+use Rattle.store_record.specs.Runs.{Run, run_at, runs_from, headed, holds, others, run_under, live, end_of}
 use Rattle.store_record.proofs.Placed.{three-placed}
 use Rattle.store_record.proofs.Headed.{headed-none, headed-past, headed-more}
 use Rattle.store_record.proofs.Runs.{runs_none, runs-next, runs-more, runs-length}
@@ -23,6 +25,14 @@ pub record Seeking (k : ℕ) (r : List ℕ) (n i : ℕ) : Type 0 where
   pub within : i ≤ n
   pub held : holds k (runs_from r i (n - i)) ≡ holds k (runs_from r 0 n)
   pub under : run_under k (runs_from r i (n - i)) ≡ run_under k (runs_from r 0 n)
+
+index_or-0 : Option ℕ → ℕ
+index_or-0 (Some i) = i
+index_or-0 None = 0
+
+some-same : {i j : ℕ} → Some i ≡ Some j → i ≡ j
+unfolding index_or-0
+some-same q = ap index_or-0 q
 
 whole : (r : List ℕ) (n : ℕ) → runs_from r 0 (n - 0) ≡ runs_from r 0 n
 whole r n =
@@ -39,20 +49,20 @@ module _ (k : ℕ) (r : List ℕ) (n i : ℕ) (s : Seeking k r n i) where
       let other : eqb k (get_or r (3 * i + 1) 0) ≡ false = ne_eqb k (get_or r (3 * i + 1) 0) (λ e. d (sym e)) in
       record { within = omega arith; held = rw (runs-next r i n h, other) at s.held; under = rw (runs-next r i n h, other) at s.under }
 
-  pub seek-here : i < n → get_or r (3 * i + 1) 0 ≡ k → Found k r n i
+  pub seek-here : i < n → get_or r (3 * i + 1) 0 ≡ k → Found k r n (Some i)
   unfolding holds run_under
   seek-here h e =
       let this : eqb k (get_or r (3 * i + 1) 0) ≡ true = eq-eqb k (get_or r (3 * i + 1) 0) (sym e) in
       record {
-        within = omega arith;
-        there = λ _. (sym (rw (runs-next r i n h, this) at s.held), sym (rw (runs-next r i n h, this) at s.under));
-        missing = λ q. absurd (omega arith);
+        there = λ j q.
+            let same : i ≡ j = some-same q in
+            (rw same at h, sym (rw (runs-next r i n h, this) at s.held), sym (rw (runs-next r i n h, this) at s.under) ∙ ap (run_at r) same);
+        missing = λ q. absurd (none-some i (sym q));
       }
 
-  pub seek-end : n ≤ i → Found k r n i
+  pub seek-end : n ≤ i → Found k r n None
   unfolding holds
-  seek-end h =
-      record { within = s.within; there = λ l. absurd (omega arith); missing = λ _. sym (rw (runs_none r i n h) at s.held) }
+  seek-end h = record { there = λ j q. absurd (none-some j q); missing = λ _. sym (rw (runs_none r i n h) at s.held) }
 
 -- ---- live_but
 
@@ -64,31 +74,26 @@ pub record Adding (k : ℕ) (r : List ℕ) (n i sum : ℕ) : Type 0 where
 pub add_start : (k : ℕ) (r : List ℕ) (n : ℕ) → Adding k r n 0 0
 add_start k r n = record { within = omega arith; others' = rw (whole r n) (omega arith); all = rw (whole r n) (omega arith) }
 
-module _ (k : ℕ) (r : List ℕ) (n i sum v : ℕ) (s : Adding k r n i sum) (h : i < n)
-    (this : get_or r (3 * i + 1) 0 ≡ k → v ≡ 0) (other : (get_or r (3 * i + 1) 0 ≡ k → ⊥) → v ≡ get_or r (3 * i + 3) 0) where
-  most : v ≤ get_or r (3 * i + 3) 0
-  most = go (eqb k (get_or r (3 * i + 1) 0)) refl
-    where
-      go : (b : Bool) → eqb k (get_or r (3 * i + 1) 0) ≡ b → v ≤ get_or r (3 * i + 3) 0
-      go true e = let z = this (sym (eqb-true k (get_or r (3 * i + 1) 0) e)) in omega arith
-      go false e = let z = other (λ q. eqb-false k (get_or r (3 * i + 1) 0) e (sym q)) in omega arith
-
-  pub add_small : sum + v ≤ live (runs_from r 0 n)
+module _ (k : ℕ) (r : List ℕ) (n i sum : ℕ) (s : Adding k r n i sum) (h : i < n) where
+  pub add_small : sum + get_or r (3 * i + 3) 0 ≤ live (runs_from r 0 n)
   unfolding live
-  add_small = let a = rw (runs-next r i n h) at s.all in omega (arith, most)
+  add_small = let a = rw (runs-next r i n h) at s.all in omega arith
 
-  pub add-next : Adding k r n (i + 1) (sum + v)
+  pub add-next : (get_or r (3 * i + 1) 0 ≡ k → ⊥) → Adding k r n (i + 1) (sum + get_or r (3 * i + 3) 0)
   unfolding live others
-  add-next =
+  add-next d =
+      let other : eqb k (get_or r (3 * i + 1) 0) ≡ false = ne_eqb k (get_or r (3 * i + 1) 0) (λ e. d (sym e)) in
       let a = rw (runs-next r i n h) at s.all in
-      let o = rw (runs-next r i n h) at s.others' in
-      record { within = omega arith; others' = go (eqb k (get_or r (3 * i + 1) 0)) refl o; all = omega (arith, most) }
-    where
-      go : (b : Bool) → eqb k (get_or r (3 * i + 1) 0) ≡ b
-          → sum + live (cond b (others k (runs_from r (i + 1) (n - (i + 1)))) (run_at r i ∷ others k (runs_from r (i + 1) (n - (i + 1))))) ≡ live (others k (runs_from r 0 n))
-          → sum + v + live (others k (runs_from r (i + 1) (n - (i + 1)))) ≡ live (others k (runs_from r 0 n))
-      go true e o = let z = this (sym (eqb-true k (get_or r (3 * i + 1) 0) e)) in omega arith
-      go false e o = let z = other (λ q. eqb-false k (get_or r (3 * i + 1) 0) e (sym q)) in omega arith
+      let o = rw (runs-next r i n h, other) at s.others' in
+      record { within = omega arith; others' = omega arith; all = omega arith }
+
+  pub add-not : get_or r (3 * i + 1) 0 ≡ k → Adding k r n (i + 1) sum
+  unfolding live others
+  add-not e =
+      let this : eqb k (get_or r (3 * i + 1) 0) ≡ true = eq-eqb k (get_or r (3 * i + 1) 0) (sym e) in
+      let a = rw (runs-next r i n h) at s.all in
+      let o = rw (runs-next r i n h, this) at s.others' in
+      record { within = omega arith; others' = o; all = omega arith }
 
 pub add-end : (k : ℕ) (r : List ℕ) (n i sum : ℕ) → Adding k r n i sum → n ≤ i → sum ≡ live (others k (runs_from r 0 n))
 unfolding live others

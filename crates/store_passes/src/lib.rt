@@ -6,26 +6,17 @@ ghost use Rattle.store_record.specs.Placed.{placed};
 ghost use Rattle.store_record.specs.Runs.{runs_from, others, live, end_of};
 ghost use Rattle.store_passes.specs.Found.{Found, Removed};
 
-// The index of the run under number `block` among the first `count`; `count` where there is none.
-pub fn find(rec: &[u64], count: usize, block: u64) -> usize
+// The index of the run under number `block` among the first `count`.
+pub fn find(rec: &[u64], count: usize, block: u64) -> Option<usize>
     requires { (length rec.now ≡ 3073) × (count ≤ 1024) }
     ensures { Found block rec.now count result }
 {
-    let mut i = 0;
-    while i < count {
+    for i in 0..count {
         if rec[3 * i + 1] == block {
-            return i;
+            return Some(i);
         }
-        i += 1;
     }
-    i
-}
-
-// The size of a run, or 0 for the run under number `block`.
-fn size_but(number: u64, size: u64, block: u64) -> usize
-    ensures { (number ≡ block → result ≡ 0) × ((number ≡ block → ⊥) → result ≡ size) }
-{
-    if number == block { 0 } else { size as usize }
+    None
 }
 
 // How many tokens the runs under other numbers have.
@@ -34,11 +25,11 @@ pub fn live_but(rec: &[u64], count: usize, block: u64) -> usize
     requires count_bound { live (runs_from rec.now 0 count) < 18446744073709551616 }
     ensures { result ≡ live (others block (runs_from rec.now 0 count)) }
 {
-    let mut sum: usize = 0;
-    let mut i = 0;
-    while i < count {
-        sum += size_but(rec[3 * i + 1], rec[3 * i + 3], block);
-        i += 1;
+    let mut sum = 0;
+    for i in 0..count {
+        if rec[3 * i + 1] != block {
+            sum += rec[3 * i + 3] as usize;
+        }
     }
     sum
 }
@@ -84,14 +75,12 @@ pub fn remove(rec: &mut [u64], count: usize, block: u64) -> usize
     requires { (length rec.old ≡ 3073) × (count ≤ 1024) }
     ensures { Removed block rec.old count rec.new result }
 {
-    let mut kept: usize = 0;
-    let mut i = 0;
-    while i < count {
+    let mut kept = 0;
+    for i in 0..count {
         let number = rec[3 * i + 1];
         let start = rec[3 * i + 2];
         let size = rec[3 * i + 3];
         kept = keep_run(rec, kept, number, start, size, block);
-        i += 1;
     }
     kept
 }

@@ -1,16 +1,15 @@
 -- Check 37 made in one pass. Assumes nothing.
 use Prim.Native.Nat.{ℕ, zero, suc, ◌+◌, ◌-◌, ◌*◌, ◌<◌, ◌≤◌}
-use mathlib.Core.Path.{◌≡◌, refl, sym, ap, subst, ◌∙◌}
-use mathlib.Core.Bool.{Bool, true, false, not, ◌&&◌, ◌||◌, and-false, true≢false}
+use mathlib.Core.Path.{◌≡◌, refl, sym, ap, ◌∙◌}
+use mathlib.Core.Bool.{Bool, true, false, ◌&&◌, and-false, true≢false}
 use mathlib.Core.List.{List, [], ◌∷◌}
 use native.Mathlib.Omega.{arith}
-use native.Mathlib.Nat.{not-suc-le-zero}
-use borrow.Author.Tests.{ltb-true, eqb-true, eqb-false, eq-eqb, ne_eqb, leb-true, le-leb, lt-ltb, not-true}
+use borrow.Author.Tests.{ltb-true, eqb-true, eq-eqb, ne_eqb, leb-true, le-leb, lt-ltb}
 use lib.Dec.{eqb, leb, ltb}
-use lib.ListN.{length, get_or, set, length-set, replicate, length-replicate, get_or-replicate}
+use lib.ListN.{length, get_or, set, length-set, replicate, length-replicate}
 use lib.Seq.{get_or-set_same, get_or-set_other}
 use Rattle.laws.proofs.Tests.{and_left, and_right}
-use Rattle.store_record.specs.Runs.{Run, run, run_at, runs_from, runs_of, in_order, holds, numbered, valid_runs, valid_record}
+use Rattle.store_record.specs.Runs.{Run, run_at, runs_from, in_order, holds, numbered, valid_runs}
 use Rattle.store_record.specs.Marks.{fits, passes}
 use Rattle.store_record.proofs.Runs.{runs-next, runs_none}
 use Rattle.store_record.proofs.Order.{and_both, same_test, either, order-head, number-head}
@@ -137,13 +136,6 @@ pass-valid size marks xs m =
     same_test (passes 0 size marks xs) (in_order 0 size xs && numbered 1024 xs)
     (λ e. let t = passed 0 size marks xs l e in and_both (in_order 0 size xs) (numbered 1024 xs) t.0 t.1.0)
     (λ e. passing 0 size marks xs l (and_left (in_order 0 size xs) (numbered 1024 xs) e) (and_right (in_order 0 size xs) (numbered 1024 xs) e) (rw m (none-marked 1024 xs)))
-
--- a length that fits behind a start
-pub left_over : (length start size : ℕ) → start ≤ size → leb length (size - start) ≡ leb (start + length) size
-left_over length start size h =
-    same_test (leb length (size - start)) (leb (start + length) size)
-    (λ e. let k = leb-true length (size - start) e in le-leb (start + length) size (omega arith))
-    (λ e. let k = leb-true (start + length) size e in le-leb length (size - start) (omega arith))
 
 pub whole : (r marks : List ℕ) (size n : ℕ) → passes 0 size marks (runs_from r 0 (n - 0)) ≡ passes 0 size marks (runs_from r 0 n)
 whole r marks size n =

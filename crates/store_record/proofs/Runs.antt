@@ -1,12 +1,12 @@
 -- The runs of a record, one by one. Assumes nothing.
 use Prim.Native.Nat.{ℕ, zero, suc, ◌+◌, ◌-◌, ◌*◌, ◌<◌, ◌≤◌}
-use mathlib.Core.Path.{◌≡◌, refl, sym, ap, ap₂, subst, ◌∙◌}
+use mathlib.Core.Path.{◌≡◌, refl, ap, ap₂, ◌∙◌}
 use mathlib.Core.List.{List, [], ◌∷◌, ◌++◌}
 use native.Mathlib.Omega.{arith}
 use native.Mathlib.Nat.{not-suc-le-zero}
 use native.Mathlib.Numerals.{add-one}
 use lib.ListN.{length, get_or}
-use Rattle.store_record.specs.Runs.{Run, run, run_at, runs_from, runs_of, flat}
+use Rattle.store_record.specs.Runs.{Run, run, run_at, runs_from, flat}
 
 pub runs_none : (r : List ℕ) (i n : ℕ) → n ≤ i → runs_from r i (n - i) ≡ []
 unfolding runs_from

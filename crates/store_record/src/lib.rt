@@ -14,16 +14,7 @@ pub const RUNS: u64 = 1024;
 fn run_fits(number: u64, start: u64, length: u64, end: u64, size: u64) -> bool
     ensures { result ≡ fits end size (run number start length) }
 {
-    if number >= RUNS {
-        return false;
-    }
-    if start < end {
-        return false;
-    }
-    if start > size {
-        return false;
-    }
-    length <= size - start
+    number < RUNS && end <= start && start <= size && length <= size - start
 }
 
 // Whether the first `count` runs pass, with a mark at each number met.
@@ -31,9 +22,8 @@ fn runs_pass(rec: &[u64], count: usize, size: u64, marks: &mut [u8]) -> bool
     requires { (length rec.now ≡ 3073) × ((count ≤ 1024) × (length marks.old ≡ 1024)) }
     ensures { result ≡ passes 0 size marks.old (runs_from rec.now 0 count) }
 {
-    let mut end: u64 = 0;
-    let mut i = 0;
-    while i < count {
+    let mut end = 0;
+    for i in 0..count {
         let number = rec[3 * i + 1];
         let start = rec[3 * i + 2];
         let length = rec[3 * i + 3];
@@ -45,7 +35,6 @@ fn runs_pass(rec: &[u64], count: usize, size: u64, marks: &mut [u8]) -> bool
         }
         marks[number as usize] = 1;
         end = start + length;
-        i += 1;
     }
     true
 }

@@ -11,41 +11,31 @@ pub fn copy_run(from: &[u64], start: usize, n: usize, to: &mut [u64], at: usize)
     requires { (start + n ≤ length from.now) × (at + n ≤ length to.old) }
     ensures { to.new ≡ placed at (take n (drop start from.now)) to.old }
 {
-    let mut i = 0;
-    while i < n {
-        to[at + i] = from[start + i];
-        i += 1;
-    }
+    to[at..at + n].copy_from_slice(&from[start..start + n]);
 }
 
-// Moves n tokens from `start` down to `at`: from the first on, since the places may overlap.
+// Moves n tokens from `start` down to `at`. The places may overlap.
 fn move_down(room: &mut [u64], start: usize, n: usize, at: usize)
     requires { (at ≤ start) × (start + n ≤ length room.old) }
     ensures { room.new ≡ placed at (take n (drop start room.old)) room.old }
 {
-    let mut i = 0;
-    while i < n {
-        let token = room[start + i];
-        room[at + i] = token;
-        i += 1;
-    }
+    room.copy_within(start..start + n, at);
 }
 
-// Moves the first `count` runs together at the front of the room; where they end.
+// Moves the first `count` runs together at the front of the room; where they end. (It reads the runs as `store_passes::remove` does, but moves room as well as record:
+// a walk that both share would take what is done with a run as a closure over both lists, and so be no plainer.)
 pub fn compact(room: &mut [u64], rec: &mut [u64], count: usize) -> usize
     requires { (length rec.old ≡ 3073) × ((count ≤ 1024) × (in_order 0 (length room.old) (runs_from rec.old 0 count) ≡ true)) }
     ensures { Compacted room.old rec.old count room.new rec.new result }
 {
-    let mut top: usize = 0;
-    let mut i = 0;
-    while i < count {
+    let mut top = 0;
+    for i in 0..count {
         let number = rec[3 * i + 1];
         let start = rec[3 * i + 2] as usize;
         let size = rec[3 * i + 3];
         move_down(room, start, size as usize, top);
         store_passes::write_run(rec, i, number, top as u64, size);
         top += size as usize;
-        i += 1;
     }
     top
 }

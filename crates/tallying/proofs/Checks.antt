@@ -1,8 +1,9 @@
 -- The checks of both calls, and what they leave the loops with. Assumes nothing.
 use mathlib.Core.Path.{◌≡◌, refl, sym, ap, ◌∙◌}
 use mathlib.Core.Bool.{Bool, true, false, ◌&&◌, cond}
-use mathlib.Core.List.{List, [], ◌∷◌, ◌++◌}
-use Prim.Native.Nat.{ℕ, ◌*◌, ◌≤◌, ◌<◌}
+use mathlib.Core.List.{List, [], ◌∷◌}
+use Prim.Native.Nat.{ℕ, zero, suc, ◌+◌, ◌*◌, ◌<◌}
+use native.Mathlib.Omega.{arith}
 use borrow.Author.Tests.{eq-eqb, ne_eqb, eqb-true, leb-true}
 use lib.Dec.{eqb, leb}
 use lib.ListN.{length, get_or}
@@ -12,12 +13,42 @@ use Rattle.laws.specs.Refusals.{first_refused}
 use Rattle.laws.proofs.Refused.{in-turn, refused-first, all_pass, none-refused, passes-first}
 use Rattle.laws.proofs.Tests.{and_left, and_right}
 use Rattle.prices.specs.Checks.{each}
-use Rattle.prices.proofs.Each.{each_below, each-fails}
+use Rattle.prices.proofs.Each.{each_below, each-run, each_same}
+use Rattle.std.specs.List.{list_all}
 use Rattle.tallying.specs.Uses.{Tokens}
 use Rattle.tallying.specs.Tally.{Tally, many, are_tokens, shared_checks, tally_checks}
 use Rattle.tallying.specs.Counting.{Countable}
 
 -- ---- 17
+-- a test of a whole list, by number
+each_none : (p : ℕ → Bool) → true ≡ each 0 p
+unfolding each
+each_none p = refl
+
+each_one : (p : ℕ → Bool) → each 1 p ≡ p 0
+unfolding each
+each_one p = refl
+
+all-each : (test : ℕ → Bool) (xs : List ℕ) → list_all test xs ≡ each (length xs) (λ i. test (get_or xs i 0))
+all-each test [] = each_none (λ i. test (get_or [] i 0))
+all-each test (x ∷ xs) =
+    let more : suc (length xs) ≡ 1 + length xs = omega arith in
+    rw (more, each-run (λ i. test (get_or (x ∷ xs) i 0)) 1 (length xs), each_one (λ i. test (get_or (x ∷ xs) i 0)))
+    (ap (λ b. test x && b)
+    (all-each test xs
+    ∙ each_same (λ i. test (get_or xs i 0)) (λ i. test (get_or (x ∷ xs) (1 + i) 0)) (length xs) (λ i h. let next : 1 + i ≡ suc i = omega arith in rw next refl)))
+
+swapped : (a b c d : Bool) → ((a && b) && (c && d)) ≡ ((a && c) && (b && d))
+swapped true true c d = refl
+swapped true false true d = refl
+swapped true false false d = refl
+swapped false b c d = refl
+
+each_both : (p q : ℕ → Bool) (n : ℕ) → (each n p && each n q) ≡ each n (λ i. p i && q i)
+unfolding each
+each_both p q zero = refl
+each_both p q (suc n) = swapped (each n p) (p n) (each n q) (q n) ∙ ap (λ b. b && (p n && q n)) (each_both p q n)
+
 module _ (t : Tokens) where
   abbrev pub is_token : ℕ → Bool
   is_token i = leb (get_or t.contexts i 0) 14849 && leb (get_or t.values i 0) 131071
@@ -26,14 +57,11 @@ module _ (t : Tokens) where
   unfolding are_tokens
   other-lengths n = rw (ne_eqb (length t.values) (many t) n)
 
-  module _ (e : length t.values ≡ many t) where
-    pub no-token : (i : ℕ) → i < many t → is_token i ≡ false → false ≡ are_tokens t
-    unfolding are_tokens
-    no-token i h f = rw (eq-eqb (length t.values) (many t) e, each-fails is_token (many t) i h f)
-
-    pub all-tokens : each (many t) is_token ≡ true → true ≡ are_tokens t
-    unfolding are_tokens
-    all-tokens f = rw (eq-eqb (length t.values) (many t) e, f)
+  pub both-lists : length t.values ≡ many t → (list_all (λ context. leb context 14849) t.contexts && list_all (λ value. leb value 131071) t.values) ≡ are_tokens t
+  unfolding are_tokens
+  both-lists e =
+      rw (eq-eqb (length t.values) (many t) e, all-each (λ context. leb context 14849) t.contexts, all-each (λ value. leb value 131071) t.values, e)
+      (each_both (λ i. leb (get_or t.contexts i 0) 14849) (λ i. leb (get_or t.values i 0) 131071) (many t))
 
 -- ---- 1 to 4, then 17
 module _ (k : Coding) (t : Tokens) (places : ℕ) where

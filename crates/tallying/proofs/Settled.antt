@@ -1,19 +1,23 @@
 -- The returns of the two calls, as their definitions say it. Assumes nothing.
-use mathlib.Core.Path.{◌≡◌, refl, sym, ap, ◌∙◌}
-use mathlib.Core.Bool.{Bool, true, false, ◌&&◌, cond}
-use mathlib.Core.List.{List}
-use Prim.Native.Nat.{ℕ, suc, ◌+◌, ◌-◌, ◌≤◌, ◌<◌}
+use mathlib.Core.Path.{◌≡◌, refl, sym, ◌∙◌}
+use mathlib.Core.Bool.{Bool, true, false}
+use Prim.Native.Nat.{ℕ, ◌+◌, ◌-◌, ◌≤◌, ◌<◌}
 use native.Mathlib.Omega.{arith}
-use borrow.Author.Tests.{eq-eqb, ne_eqb, le-leb, lt-leb, leb-true, leb-false}
-use lib.Dec.{eqb, leb}
+use borrow.Author.Tests.{ne_eqb, le-leb, lt-leb, leb-true, leb-false}
+use lib.Dec.{leb}
 use lib.ListN.{length, get_or}
 use Rattle.coding.specs.Coding.{Coding}
 use Rattle.laws.specs.Refusals.{first_refused}
-use Rattle.prices.specs.Checks.{each}
 use Rattle.prices.proofs.Each.{each_same}
 use Rattle.tallying.specs.Uses.{Tokens, place_at, used_at, extra_used}
-use Rattle.tallying.specs.Tally.{Tally, tally_of, Outcome, outcome_of, many, shared_checks, tally_checks, settled, added, removed, addable, removable, plus, minus}
+use Rattle.tallying.specs.Tally.{Tally, outcome_of, many, shared_checks, settled, added, removed, addable, removable, plus, minus}
 use Rattle.tallying.specs.Counting.{has_room, all_room, to_add, rest_to_add, to_remove}
+use mathlib.Core.List.{List}
+use mathlib.Core.Path.{ap}
+use Rattle.tallying.specs.Tally.{tally_of}
+use Rattle.tallying.specs.declared.Change.{Change}
+use Rattle.tallying.specs.declared.Change.TheVariants.{Add, Remove}
+use Rattle.tallying.specs.Changes.{SomeCounted, outcome}
 use Rattle.tallying.proofs.Checks.{shared-refused, shared-passed}
 use Rattle.tallying.proofs.Uses.{all_have, one-lacks}
 
@@ -77,3 +81,24 @@ module _ (k : Coding) (t : Tokens) (y : Tally) where
     pub remove-done : ((i : ℕ) → i < many t → has_room k.map k.configs t (to_remove y) y.extra i ≡ true) → outcome_of 0 (minus k.map k.configs t (many t) y) ≡ removed k t y
     unfolding removed removable
     remove-done h = own-passes k t y (removable k t y) 28 _ ok (all_have k.map k.configs t (to_remove y) y.extra (many t) h)
+
+-- ---- whichever way a tally is changed
+abbrev pub own : Change → ℕ
+own Add = 27
+own Remove = 28
+
+module _ (k : Coding) (t : Tokens) (counts : List ℕ) (extra : ℕ) where
+  pub refused : (change : Change) {r : ℕ} → r ≡ first_refused (shared_checks k t (length counts)) 0 → (r ≡ 0 → ⊥) → outcome_of r (tally_of counts extra) ≡ outcome change k t (tally_of counts extra)
+  refused Add e z = add-refused k t (tally_of counts extra) e z
+  refused Remove e z = remove-refused k t (tally_of counts extra) e z
+
+  module _ (ok : first_refused (shared_checks k t (length counts)) 0 ≡ 0) (small : (s : ℕ) → get_or counts s 0 ≤ 4294967295) (total : extra ≤ 18446744073709551615) where
+    pub stopped : (change : Change) (done : ℕ) (z : Tally) → SomeCounted change k.map k.configs t (many t) (tally_of counts extra) done z → done < many t
+        → outcome_of (own change) (tally_of counts extra) ≡ outcome change k t (tally_of counts extra)
+    stopped Add done z S h = add-full k t (tally_of counts extra) ok small total done h (S.stopped h)
+    stopped Remove done z S h = remove-empty k t (tally_of counts extra) ok done h (S.stopped h)
+
+    pub finished : (change : Change) (z : Tally) → SomeCounted change k.map k.configs t (many t) (tally_of counts extra) (many t) z
+        → outcome_of 0 z ≡ outcome change k t (tally_of counts extra)
+    finished Add z S = ap (outcome_of 0) S.tally ∙ add_done k t (tally_of counts extra) ok small total S.fitted
+    finished Remove z S = ap (outcome_of 0) S.tally ∙ remove-done k t (tally_of counts extra) ok S.fitted

@@ -1,14 +1,13 @@
 -- One token more: what the loops write, and where they stop. Assumes nothing.
 use mathlib.Core.Path.{◌≡◌, refl, sym, ap, ◌∙◌}
-use mathlib.Core.Bool.{Bool, true, false, ◌&&◌, and-false}
+use mathlib.Core.Bool.{true, false, and-false}
 use mathlib.Core.List.{List}
-use Prim.Native.Nat.{ℕ, zero, suc, ◌+◌, ◌-◌, ◌≤◌, ◌<◌, min, zero-le}
+use Prim.Native.Nat.{ℕ, suc, ◌+◌, ◌-◌, ◌≤◌, ◌<◌, zero-le}
 use native.Mathlib.Nat.{min-le_right, not-suc-le-zero}
 use native.Mathlib.Numerals.{add-one}
 use native.Mathlib.Omega.{arith}
 use borrow.Author.Count.{below_more}
 use borrow.Author.Tests.{le-leb, lt-leb}
-use lib.Dec.{leb}
 use lib.ListN.{length, get_or, set}
 use Rattle.prices.specs.Book.{cluster_symbol}
 use Rattle.tallying.specs.Uses.{Tokens, cluster_at, place_at, extra_at, used_at, extra_used}
@@ -55,7 +54,7 @@ module _ (map configs : List ℕ) (t : Tokens) (counts : List ℕ) where
           le-leb (extra_used map configs t (suc n)) rest (omega (arith, g, more, extra-next map configs t n)),
         )
 
-    pub add-full : get_or counts p 0 + used_at map configs t n p ≡ 4294967295 → has_room map configs t (to_add (tally_of counts extra)) (rest_to_add (tally_of counts extra)) n ≡ false
+    pub add-full : 4294967295 ≤ get_or counts p 0 + used_at map configs t n p → has_room map configs t (to_add (tally_of counts extra)) (rest_to_add (tally_of counts extra)) n ≡ false
     add-full h = lacks-place (to_add (tally_of counts extra)) _ (omega (arith, h))
 
     pub add-over : extra ≤ 18446744073709551615 → 18446744073709551615 < extra + extra_used map configs t n + e → has_room map configs t (to_add (tally_of counts extra)) (rest_to_add (tally_of counts extra)) n ≡ false

@@ -1,20 +1,20 @@
 -- Tokens that were added are taken out again, and the other way round: the tally is what it was. Assumes nothing.
 use mathlib.Core.Path.{◌≡◌, refl, sym, ap, ap₂, ◌∙◌}
-use mathlib.Core.Bool.{Bool, true, false, ◌&&◌, true≢false}
+use mathlib.Core.Bool.{Bool, true, false, true≢false}
 use mathlib.Core.Logic.{◌⊎◌, inl, inr}
 use mathlib.Core.List.{List}
 use Prim.Native.Nat.{ℕ, zero, suc, ◌+◌, ◌-◌, ◌≤◌, ◌<◌}
 use native.Mathlib.Omega.{arith}
 use borrow.Author.Tests.{le-leb, ltb-true, ltb-false}
-use lib.Dec.{leb, ltb}
+use lib.Dec.{ltb}
 use lib.ListN.{length, get_or}
 use Rattle.tallying.specs.Uses.{Tokens, place_at, used_at, extra_used}
-use Rattle.tallying.specs.Tally.{Tally, tally_of, listed, plus, minus, many}
+use Rattle.tallying.specs.Tally.{Tally, tally_of, plus, minus, many}
 use Rattle.tallying.specs.Counting.{Countable, has_room, to_add, rest_to_add, to_remove, SomeAdded, SomeRemoved}
 use Rattle.tallying.proofs.Entries.{plus-sized, minus-sized, plus-at, minus-at}
 use Rattle.tallying.proofs.Lists.{listed_is}
 use Rattle.tallying.proofs.Steps.{in-places}
-use Rattle.tallying.proofs.Uses.{used-some, used-within, extra-within, place-room, extra-room}
+use Rattle.tallying.proofs.Uses.{used-within, extra-within, place-room, extra-room}
 
 either : (n : ℕ) → (n ≡ 0) ⊎ (1 ≤ n)
 either zero = inl refl

@@ -5,10 +5,9 @@ use mathlib.Core.List.{List}
 use Prim.Native.Nat.{ℕ, zero, suc, ◌+◌, ◌-◌, ◌≤◌, ◌<◌}
 use native.Mathlib.Nat.{zero-add, le_of_eq, le_trans}
 use native.Mathlib.Omega.{arith}
-use borrow.Author.Tests.{eq-eqb, ne_eqb, eqb-true, eqb-false, leb-true, leb-false, le-leb, lt-leb}
+use borrow.Author.Tests.{eq-eqb, ne_eqb, eqb-true, leb-true, leb-false, le-leb, lt-leb}
 use lib.Dec.{eqb, leb}
 use Rattle.laws.proofs.Tests.{and_left, and_right}
-use Rattle.prices.specs.Checks.{each}
 use Rattle.prices.proofs.Each.{each_all, each-fails}
 use Rattle.tallying.specs.Uses.{Tokens, place_at, extra_at, used_at, extra_used}
 use Rattle.tallying.specs.Counting.{has_room, all_room}

@@ -2,13 +2,18 @@
 // and taken out when the block is searched again.
 #![tactic(auto)]
 
-ghost use Rattle.std.specs.Prelude.{◌≡◌, ◌&&◌, ◌+◌, ◌*◌, ◌≤◌, min, leb, length, get_or};
-ghost use Rattle.coding.specs.Coding.{Coded, coding_of};
-ghost use Rattle.laws.specs.Refusals.{first_refused};
+ghost use Rattle.std.specs.Prelude.{◌≡◌, ◌+◌, ◌*◌, ◌<◌, ◌≤◌, min, length, get_or, IfErr};
+ghost use Rattle.std.specs.Option.{SomeIff};
+ghost use Rattle.coding.specs.Coding.{coding_of};
 ghost use Rattle.prices.specs.Book.{cluster_symbol, cluster_extra};
 ghost use Rattle.tallying.specs.Uses.{tokens_of};
-ghost use Rattle.tallying.specs.Tally.{tally_of, are_tokens, shared_checks};
-ghost use Rattle.tallying.specs.Counting.{Countable, SomeAdded, SomeRemoved};
+ghost use Rattle.tallying.specs.Tally.{tally_of, are_tokens};
+ghost use Rattle.tallying.specs.Checked.{IsChecked};
+ghost use Rattle.tallying.specs.Counting.{Countable};
+ghost use Rattle.tallying.specs.Changes.{opposite, op_of, Goes, counted_of, SomeCounted};
+
+use coding::code::Code;
+use refusals::Refusal;
 
 // Where a token is counted, and its extra bits.
 #[derive(Clone, Copy)]
@@ -18,159 +23,103 @@ struct Use {
 }
 
 // A symbol above 127 is counted as 127.
-fn held_to_127(symbol: u32) -> u32
-    ensures { result ≡ min symbol 127 }
+fn use_of(code: &Code, context: u32, value: u32) -> Use
+    requires token { (context ≤ 14849) × (value ≤ 131071) }
+    ensures place_value { result.place ≡ 128 * get_or code.now.map.now context 0 + min (cluster_symbol code.now.configs.now (get_or code.now.map.now context 0) value) 127 }
+    ensures extra_value { result.extra ≡ cluster_extra code.now.configs.now (get_or code.now.map.now context 0) value }
 {
-    if symbol > 127 { 127 } else { symbol }
-}
-
-fn use_of(map: &[u8], configs: &[u8], context: u32, value: u32) -> Use
-    requires coded { Coded map.now configs.now }
-    requires context_bound { (context ≤ 14849) × (value ≤ 131071) }
-    ensures place_value { result.place ≡ 128 * get_or map.now context 0 + min (cluster_symbol configs.now (get_or map.now context 0) value) 127 }
-    ensures extra_value { result.extra ≡ cluster_extra configs.now (get_or map.now context 0) value }
-{
-    let at = context as usize;
-    let cluster = map[at] as usize;
-    let split = prices::cluster_split(configs, cluster, value);
+    let cluster = usize::from(code.map[context as usize]);
+    let split = prices::cluster_split(code.configs, cluster, value);
     Use {
-        place: 128 * cluster + held_to_127(split.symbol) as usize,
-        extra: split.extra_bits as u64,
+        place: 128 * cluster + split.symbol.min(127) as usize,
+        extra: u64::from(split.extra_bits),
     }
 }
 
-// How many tokens were counted, and the total of extra bits then.
+// Whether tokens are added to a tally or taken out of it.
 #[derive(Clone, Copy)]
-pub struct Counted {
-    pub done: usize,
-    pub extra: u64,
+pub enum Change {
+    Add,
+    Remove,
 }
 
-// Adds the first n tokens, up to one that would pass the type of its count or of the total.
-pub fn add_some(
-    map: &[u8],
-    configs: &[u8],
+impl Change {
+    pub fn opposite(self) -> Change
+        ensures { result ≡ opposite self }
+    {
+        match self {
+            Change::Add => Change::Remove,
+            Change::Remove => Change::Add,
+        }
+    }
+
+    // A count with a token more or less; `None` where it has no room for one, or holds none.
+    fn count(self, count: u32) -> Option<u32>
+        ensures { SomeIff result (Goes self 4294967296 count 1) (op_of self count 1) }
+    {
+        match self {
+            Change::Add => count.checked_add(1),
+            Change::Remove => count.checked_sub(1),
+        }
+    }
+
+    // The same of a total and a token's extra bits.
+    fn total(self, total: u64, extra: u64) -> Option<u64>
+        ensures { SomeIff result (Goes self 18446744073709551616 total extra) (op_of self total extra) }
+    {
+        match self {
+            Change::Add => total.checked_add(extra),
+            Change::Remove => total.checked_sub(extra),
+        }
+    }
+}
+
+// Adds tokens to a tally, or takes them out, up to the first that has no room for its count or for its extra bits: `Err` has how many come before it.
+pub fn count_tokens(
+    change: Change,
+    code: &Code,
     contexts: &[u32],
     values: &[u32],
-    n: usize,
     counts: &mut [u32],
-    extra: u64,
-) -> Counted
-    requires countable { Countable map.now configs.now (tokens_of contexts.now values.now) (length counts.old) }
-    requires n_in_bounds { n ≤ length contexts.now }
-    ensures { SomeAdded map.now configs.now (tokens_of contexts.now values.now) n (tally_of counts.old extra) result.done (tally_of counts.new result.extra) }
+    extra: &mut u64,
+) -> Result<(), usize>
+    requires { Countable code.now.map.now code.now.configs.now (tokens_of contexts.now values.now) (length counts.old) }
+    ensures counted { SomeCounted change code.now.map.now code.now.configs.now (tokens_of contexts.now values.now) (length contexts.now)
+        (tally_of counts.old extra.old) (counted_of result (length contexts.now)) (tally_of counts.new extra.new) }
+    ensures stopped_early { IfErr result (λ done. done < length contexts.now) }
 {
-    let mut total = extra;
-    let mut i = 0;
-    while i < n {
-        let token = use_of(map, configs, contexts[i], values[i]);
-        let place = token.place;
-        let count = counts[place];
-        if count == u32::MAX {
-            return Counted {
-                done: i,
-                extra: total,
-            };
-        }
-        if token.extra > u64::MAX - total {
-            return Counted {
-                done: i,
-                extra: total,
-            };
-        }
-        counts[place] = count + 1;
-        total += token.extra;
-        i += 1;
+    for (i, &context) in contexts.iter().enumerate() {
+        let token = use_of(code, context, values[i]);
+        let count = change.count(counts[token.place]).ok_or(i)?;
+        *extra = change.total(*extra, token.extra).ok_or(i)?;
+        counts[token.place] = count;
     }
-    Counted {
-        done: i,
-        extra: total,
-    }
-}
-
-// Takes the first n tokens out, up to one that would bring its count or the total below 0.
-pub fn remove_some(
-    map: &[u8],
-    configs: &[u8],
-    contexts: &[u32],
-    values: &[u32],
-    n: usize,
-    counts: &mut [u32],
-    extra: u64,
-) -> Counted
-    requires countable { Countable map.now configs.now (tokens_of contexts.now values.now) (length counts.old) }
-    requires n_in_bounds { n ≤ length contexts.now }
-    ensures { SomeRemoved map.now configs.now (tokens_of contexts.now values.now) n (tally_of counts.old extra) result.done (tally_of counts.new result.extra) }
-{
-    let mut total = extra;
-    let mut i = 0;
-    while i < n {
-        let token = use_of(map, configs, contexts[i], values[i]);
-        let place = token.place;
-        let count = counts[place];
-        if count == 0 {
-            return Counted {
-                done: i,
-                extra: total,
-            };
-        }
-        if token.extra > total {
-            return Counted {
-                done: i,
-                extra: total,
-            };
-        }
-        counts[place] = count - 1;
-        total -= token.extra;
-        i += 1;
-    }
-    Counted {
-        done: i,
-        extra: total,
-    }
-}
-
-fn is_token(context: u32, value: u32) -> bool
-    ensures { result ≡ (leb context 14849 && leb value 131071) }
-{
-    if context > 14849 {
-        return false;
-    }
-    value <= 131071
+    Ok(())
 }
 
 // 17: two lists of one length, contexts below 14,850, values up to 131,071.
 fn are_tokens(contexts: &[u32], values: &[u32]) -> bool
     ensures { result ≡ are_tokens (tokens_of contexts.now values.now) }
 {
-    if values.len() != contexts.len() {
-        return false;
-    }
-    let mut i = 0;
-    while i < contexts.len() {
-        if is_token(contexts[i], values[i]) {
-            i += 1;
-        } else {
-            return false;
-        }
-    }
-    true
+    values.len() == contexts.len()
+        && contexts.iter().all(|&context| context <= 14849)
+        && values.iter().all(|&value| value <= 131071)
 }
 
-// Checks 1 to 4 and 17: the number of the first that fails, or 0. `places`: how many counts were lent.
-pub fn check_tokens(
+// Checks 1 to 4 and 17: the code, once it and the tokens have passed. `places`: how many counts were lent.
+pub fn check_tokens<'a>(
     clusters: u32,
-    map: &[u8],
-    configs: &[u8],
+    map: &'a [u8],
+    configs: &'a [u8],
     contexts: &[u32],
     values: &[u32],
     places: usize,
-) -> u32
-    ensures { result ≡ first_refused (shared_checks (coding_of clusters map.now configs.now) (tokens_of contexts.now values.now) places) 0 }
+) -> Result<Code<'a>, Refusal>
+    ensures { IsChecked (coding_of clusters map.now configs.now) (tokens_of contexts.now values.now) places result }
 {
-    let first = coding::check_coding(clusters, map, configs, places == 128 * (clusters as usize));
-    if first != 0 {
-        return first;
+    let code = coding::checked_code(clusters, map, configs, places == 128 * clusters as usize)?;
+    if !are_tokens(contexts, values) {
+        return Err(Refusal::Domain);
     }
-    if are_tokens(contexts, values) { 0 } else { 17 }
+    Ok(code)
 }

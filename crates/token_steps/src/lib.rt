@@ -2,13 +2,13 @@
 #![tactic(auto)]
 
 ghost use Rattle.std.specs.Prelude.{◌≡◌, true, cond, ◌<◌, ◌≤◌};
-ghost use Rattle.coding.specs.Coding.{Coded};
-ghost use Rattle.block_tokens.specs.Code.{code_of};
+ghost use Rattle.block_tokens.specs.Code.{contents};
 ghost use Rattle.block_tokens.specs.Passed.{Shaped};
 ghost use Rattle.block_tokens.specs.Reading.{pair, splits_in, value_in};
 ghost use Rattle.token_steps.specs.Steps.{LaidOut, SplitIn, HasToken, StepAt};
 
 use block::Shape;
+use coding::code::Code;
 use packing::Split;
 
 // What a block's shape gives: the covered blocks and their logarithm, the first coefficient context, and the count's context.
@@ -39,34 +39,31 @@ pub fn layout_of(shape: Shape) -> Layout
 }
 
 // The split of a value under the configuration of a context's cluster.
-pub fn split_in(map: &[u8], configs: &[u8], context: usize, value: u32) -> Split
-    requires coded { Coded map.now configs.now }
+pub fn split_in(code: &Code, context: usize, value: u32) -> Split
     requires context_bound { (context < 14850) × (value ≤ 131071) }
-    ensures { SplitIn (code_of map.now configs.now) (record { context = context; value = value }) result }
+    ensures { SplitIn (contents code.now) (record { context = context; value = value }) result }
 {
-    let cluster = map[context] as usize;
-    packing::uint_encode_with_config(value, prices::config_of(configs, cluster))
+    let cluster = code.map[context] as usize;
+    packing::uint_encode_with_config(value, prices::config_of(code.configs, cluster))
 }
 
 // The value of a symbol and its extra bits under the configuration of a context's cluster; NO_VALUE where they split none.
-pub fn value_in(map: &[u8], configs: &[u8], context: usize, symbol: u32, bits: u32) -> u32
-    requires coded { Coded map.now configs.now }
+pub fn value_in(code: &Code, context: usize, symbol: u32, bits: u32) -> u32
     requires context_bound { context < 14850 }
-    ensures { let x = code_of map.now configs.now in result ≡ cond (splits_in x context (pair symbol bits)) (value_in x context (pair symbol bits)) 131072 }
+    ensures { let x = contents code.now in result ≡ cond (splits_in x context (pair symbol bits)) (value_in x context (pair symbol bits)) 131072 }
 {
-    let cluster = map[context] as usize;
-    packing::uint_decode_with_config(symbol, bits, prices::config_of(configs, cluster))
+    let cluster = code.map[context] as usize;
+    packing::uint_decode_with_config(symbol, bits, prices::config_of(code.configs, cluster))
 }
 
 // The same where they are the split of a value.
-pub fn read_in(map: &[u8], configs: &[u8], context: usize, symbol: u32, bits: u32) -> u32
-    requires coded { Coded map.now configs.now }
+pub fn read_in(code: &Code, context: usize, symbol: u32, bits: u32) -> u32
     requires context_bound { context < 14850 }
-    requires bits_value { splits_in (code_of map.now configs.now) context (pair symbol bits) ≡ true }
-    ensures { result ≡ value_in (code_of map.now configs.now) context (pair symbol bits) }
+    requires bits_value { splits_in (contents code.now) context (pair symbol bits) ≡ true }
+    ensures { result ≡ value_in (contents code.now) context (pair symbol bits) }
 {
-    let cluster = map[context] as usize;
-    packing::uint_read_with_config(symbol, bits, prices::config_of(configs, cluster))
+    let cluster = code.map[context] as usize;
+    packing::uint_read_with_config(symbol, bits, prices::config_of(code.configs, cluster))
 }
 
 // A level's token as it is written, and whether the level is nonzero.
@@ -80,8 +77,7 @@ pub struct Step {
 }
 
 pub fn token_at(
-    map: &[u8],
-    configs: &[u8],
+    code: &Code,
     layout: Layout,
     scan: &[u32],
     levels: &[i32],
@@ -89,14 +85,13 @@ pub fn token_at(
     left: usize,
     prev: usize,
 ) -> Step
-    requires coded { Coded map.now configs.now }
     requires has_token { HasToken layout scan.now levels.now k left prev }
-    ensures { StepAt (code_of map.now configs.now) layout scan.now levels.now k left prev result }
+    ensures { StepAt (contents code.now) layout scan.now levels.now k left prev result }
 {
     let level = steps::level_at(scan, levels, k);
     let context = layout.offset
         + ac_context::zero_density_context(left, k, layout.covered, layout.log2, prev);
-    let split = split_in(map, configs, context, packing::pack_signed(level));
+    let split = split_in(code, context, packing::pack_signed(level));
     Step {
         context,
         symbol: split.symbol,

@@ -1,9 +1,8 @@
 -- What the writer answers, test by test. Assumes nothing.
 use Prim.Native.Nat.{ℕ}
-use mathlib.Core.Path.{◌≡◌, refl, sym, ap, ◌∙◌}
+use mathlib.Core.Path.{◌≡◌, refl, ap}
 use mathlib.Core.Bool.{Bool, true, false, cond, ◌&&◌}
 use mathlib.Core.List.{List, [], ◌∷◌}
-use native.Mathlib.Omega.{arith}
 use borrow.Author.Tests.{leb-true}
 use lib.Dec.{eqb, leb}
 use lib.IntN.{ℤ}
@@ -15,7 +14,7 @@ use Rattle.laws.specs.Refusals.{first_refused}
 use Rattle.block_tokens.specs.declared.Reply.TheVariants.{Tokens, Refused}
 use Rattle.block_tokens.specs.Tokens.{Token, block_tokens}
 use Rattle.block_tokens.specs.Code.{Code}
-use Rattle.block_tokens.specs.Writing.{Outputs, outputs, written, all_within, all_coded, room_for, write_checks, WriteResult, wrote, write_result}
+use Rattle.block_tokens.specs.Writing.{Outputs, outputs, written, all_within, all_coded, room_for, write_checks, wrote, write_result}
 use Rattle.token_bounds.specs.Bounds.{levels_refusal}
 use Rattle.token_write.specs.Room.{RoomFor}
 

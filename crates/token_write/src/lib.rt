@@ -4,9 +4,8 @@
 ghost use Rattle.std.specs.Prelude.{◌≡◌, true, ◌&&◌, ◌-◌, ◌≤◌, leb, length};
 ghost use Rattle.block.specs.Block.{nonzeros_among};
 ghost use Rattle.block.specs.declared.Shape.{Shape};
-ghost use Rattle.coding.specs.Coding.{Coded};
 ghost use Rattle.block_tokens.specs.Tokens.{block_tokens, coded_levels};
-ghost use Rattle.block_tokens.specs.Code.{code_of};
+ghost use Rattle.block_tokens.specs.Code.{contents};
 ghost use Rattle.block_tokens.specs.Writing.{outputs, written, all_within, wrote, write_result};
 ghost use Rattle.block_tokens.specs.Passed.{Shaped, Scanned};
 ghost use Rattle.token_steps.specs.Steps.{LaidOut, Placed};
@@ -14,6 +13,7 @@ ghost use Rattle.token_write.specs.Room.{RoomFor};
 
 use block::Shape;
 use block_tokens::Reply;
+use coding::code::Code;
 use token_steps::Layout;
 
 // The number of tokens: the count's, and one for each scan position from c on until none of the `count` nonzero levels remains.
@@ -24,6 +24,7 @@ fn tokens_of(layout: Layout, scan: &[u32], levels: &[i32], count: usize) -> usiz
 {
     let mut left = count;
     let mut k = layout.covered;
+    // It ends with the levels that are left, and not with an index.
     while left > 0 {
         left -= steps::nonzero(steps::level_at(scan, levels, k));
         k += 1;
@@ -34,16 +35,7 @@ fn tokens_of(layout: Layout, scan: &[u32], levels: &[i32], count: usize) -> usiz
 fn has_room(n: usize, contexts: usize, symbols: usize, extra_bits: usize, bits: usize) -> bool
     ensures { result ≡ (leb n contexts && leb n symbols && leb n extra_bits && leb n bits) }
 {
-    if contexts < n {
-        return false;
-    }
-    if symbols < n {
-        return false;
-    }
-    if extra_bits < n {
-        return false;
-    }
-    bits >= n
+    n <= contexts && n <= symbols && n <= extra_bits && n <= bits
 }
 
 // Whether each output, by its length, has room for all tokens. Where it has room for any block's they are not counted.
@@ -76,8 +68,7 @@ fn room_for_all(
 
 // Writes all tokens, once everything has passed, and answers their number.
 fn write_all(
-    map: &[u8],
-    configs: &[u8],
+    code: &Code,
     layout: Layout,
     scan: &[u32],
     levels: &[i32],
@@ -87,15 +78,15 @@ fn write_all(
     extra_bits: &mut [u32],
     bits: &mut [u32],
 ) -> usize
-    requires coded { (Coded map.now configs.now) × (Placed layout scan.now levels.now) }
+    requires placed { Placed layout scan.now levels.now }
     requires levels_value { (h : Shape) → LaidOut h layout → all_within (coded_levels h scan.now levels.now) ≡ true }
     requires count_value { count ≡ nonzeros_among scan.now levels.now layout.covered (length scan.now - layout.covered) }
     requires room_for { (h : Shape) → LaidOut h layout → Scanned h scan.now levels.now → RoomFor (length (block_tokens h (coded_levels h scan.now levels.now))) contexts.old symbols.old extra_bits.old bits.old }
     ensures { (h : Shape) → LaidOut h layout → Scanned h scan.now levels.now
         → (result ≡ length (block_tokens h (coded_levels h scan.now levels.now))) × (outputs contexts.new symbols.new extra_bits.new bits.new
-        ≡ written (code_of map.now configs.now) (block_tokens h (coded_levels h scan.now levels.now)) (outputs contexts.old symbols.old extra_bits.old bits.old)) }
+        ≡ written (contents code.now) (block_tokens h (coded_levels h scan.now levels.now)) (outputs contexts.old symbols.old extra_bits.old bits.old)) }
 {
-    let split = token_steps::split_in(map, configs, layout.count_context, count as u32);
+    let split = token_steps::split_in(code, layout.count_context, count as u32);
     contexts[0] = layout.count_context as u32;
     symbols[0] = split.symbol;
     extra_bits[0] = split.extra_bits;
@@ -104,8 +95,9 @@ fn write_all(
     let mut left = count;
     let mut prev = steps::tokens::first_prev(layout.covered, count);
     let mut k = layout.covered;
+    // It ends with the levels that are left, and not with an index.
     while left > 0 {
-        let step = token_steps::token_at(map, configs, layout, scan, levels, k, left, prev);
+        let step = token_steps::token_at(code, layout, scan, levels, k, left, prev);
         contexts[i] = step.context as u32;
         symbols[i] = step.symbol;
         extra_bits[i] = step.extra_bits;
@@ -120,8 +112,7 @@ fn write_all(
 
 // The tokens of a block.
 pub fn write_coded(
-    map: &[u8],
-    configs: &[u8],
+    code: &Code,
     shape: Shape,
     scan: &[u32],
     levels: &[i32],
@@ -130,14 +121,13 @@ pub fn write_coded(
     extra_bits: &mut [u32],
     bits: &mut [u32],
 ) -> Reply
-    requires coded { Coded map.now configs.now }
     requires shaped { (Shaped shape) × (Scanned shape scan.now levels.now) }
     ensures { wrote result (outputs contexts.new symbols.new extra_bits.new bits.new)
-        ≡ write_result (code_of map.now configs.now) shape (coded_levels shape scan.now levels.now) (outputs contexts.old symbols.old extra_bits.old bits.old) }
+        ≡ write_result (contents code.now) shape (coded_levels shape scan.now levels.now) (outputs contexts.old symbols.old extra_bits.old bits.old) }
 {
     let layout = token_steps::layout_of(shape);
     let count = steps::tokens::nonzeros_from(scan, levels, layout.covered);
-    let refusal = token_bounds::check_levels(map, configs, layout, scan, levels, count);
+    let refusal = token_bounds::check_levels(code, layout, scan, levels, count);
     if refusal != 0 {
         return Reply::Refused(refusal);
     }
@@ -154,7 +144,7 @@ pub fn write_coded(
         return Reply::Refused(23);
     }
     let n = write_all(
-        map, configs, layout, scan, levels, count, contexts, symbols, extra_bits, bits,
+        code, layout, scan, levels, count, contexts, symbols, extra_bits, bits,
     );
     Reply::Tokens(n as u32)
 }

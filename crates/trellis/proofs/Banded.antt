@@ -10,8 +10,7 @@ use lib.Ieee.{Float, inf}
 use Rattle.block.specs.Block.{Block, covered}
 use Rattle.block.specs.Checks.{choice_bytes, states, search_refusal, enough_room}
 use Rattle.block.specs.Outcome.{Lent, Result, cleared, refused, result_of}
-use Rattle.block.specs.declared.Answer.{Answer}
-use Rattle.block.specs.declared.Answer.TheVariants.{Refused}
+use Rattle.block.specs.Answer.{Answer}
 use Rattle.prices.specs.Book.{Book}
 use Rattle.prices.proofs.Passed.{listed, by-lists}
 use Rattle.problem.proofs.Refusals.{searched}
@@ -33,15 +32,12 @@ module _ (w : ℕ) (v : Window) (book : Book) (b : Block) (l : Lent) where
   unfolding banded_outcome
   refused-banded e some = rw (ne_eqb _ 0 (λ z. some (e ∙ z))) (ap (λ (m : ℕ). refused m l) e)
 
-  -- let pass, and searched
-  same-book : refusal w v book b l ≡ 0 → book ≡ listed book
-  unfolding refusal
-  same-book none = by-lists book (searched w v book b _ none).0
-
-  pub let-pass : refusal w v book b l ≡ 0 → {after : Result} → after ≡ searched_outcome w v (listed book) b l → after ≡ banded_outcome w v book b l
+  -- a call whose checks pass answers as the search of the checked book does
+  pub let-pass : refusal w v book b l ≡ 0 → {checked : Book} → checked ≡ book → {after : Result} → after ≡ searched_outcome w v checked b l → after ≡ banded_outcome w v book b l
   unfolding banded_outcome
-  let-pass none e = rw (eq-eqb (refusal w v book b l) 0 none) (e ∙ ap (λ (k : Book). searched_outcome w v k b l) (sym (same-book none)))
+  let-pass none same e = rw (eq-eqb (refusal w v book b l) 0 none) (e ∙ ap (λ (k : Book). searched_outcome w v k b l) same)
 
+  -- let pass, and searched
   pub searched-banded : {answer : Answer} {levels : List ℤ} {choices : List ℕ} {row_a row_b : List Float} {m n k : ℕ}
       → (answer ≡ answered w v book b) × (levels ≡ written w v book b) → choices ≡ replicate m 255 → m ≡ length l.choices → row_a ≡ replicate n (inf false) → n ≡ length l.row_a
       → row_b ≡ replicate k (inf false) → k ≡ length l.row_b → result_of answer levels choices row_a row_b ≡ searched_outcome w v book b l

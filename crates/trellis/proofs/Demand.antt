@@ -1,27 +1,25 @@
 -- The outcome of the trellis meets demand 3 of document 01. Assumes nothing.
 use mathlib.Core.Path.{◌≡◌, refl, sym, ap, ◌∙◌, subst, subst⁻¹}
-use mathlib.Core.Logic.{◌↔◌}
 use mathlib.Core.Bool.{Bool, true, false, cond}
 use mathlib.Core.List.{List}
-use Prim.Native.Nat.{ℕ, ◌*◌, ◌≤◌, ◌<◌}
+use Prim.Native.Nat.{ℕ, ◌*◌, ◌≤◌}
 use native.Mathlib.Nat.{le_trans, mul-le-mul_right}
 use native.Mathlib.Omega.{arith}
-use borrow.Author.Tests.{eqb-true, eqb-false, eq-eqb, ne_eqb, le-leb}
+use borrow.Author.Tests.{eqb-true, eq-eqb, le-leb}
 use lib.Dec.{T, eqb}
 use lib.IntN.{ℤ}
 use lib.ListN.{length}
-use lib.Ieee.{Float, le, lt}
+use lib.Ieee.{Float, le}
 use lib.Ieee.Scale.{finite}
 use Rattle.block.specs.Band.{positions_from, past_window, tail_of, problem_of}
-use Rattle.block.specs.Block.{Block, with_levels, covered, input_from, input_remaining}
+use Rattle.block.specs.Block.{Block, with_levels, covered, input_remaining}
 use Rattle.block.specs.Checks.{block_refusal, search_refusal, choice_bytes, states, enough_room, trellis_room, wide_room}
 use Rattle.block.specs.Choice.{window_levels, IsChoice}
 use Rattle.block.specs.Outcome.{Lent, Result, cleared, refused, RefusedKeeps}
-use Rattle.block.specs.declared.Answer.{Answer}
-use Rattle.block.specs.declared.Answer.TheVariants.{Cost, Refused}
+use Rattle.block.specs.Answer.{Cost, Refused}
 use Rattle.block_checks.specs.Passed.{Passed}
 use Rattle.least_cost.specs.Choice.{Choice, remaining}
-use Rattle.least_cost.specs.Search.{Problem, Banded, count_of, whole_cost, least_total, least_count, least_levels}
+use Rattle.least_cost.specs.Search.{Banded, count_of, whole_cost, least_total, least_count, least_levels}
 use Rattle.least_cost.proofs.Whole as Whole
 use Rattle.prices.specs.Book.{Book}
 use Rattle.prices.specs.Checks.{book_refusal}
@@ -36,7 +34,7 @@ use Rattle.search_checks.proofs.Refusing.{room_of}
 use Rattle.weights.specs.declared.Window.{Window}
 use Rattle.trellis.specs.Demand.{RefusedExactly, LeastCost, LeastAnswered, IsCost, NeverDearer, AsWide, PromisedIn}
 use Rattle.trellis.specs.Outcome.{answered, written, refusal, wide_refusal, searched_outcome, banded_outcome, wide_outcome}
-use Rattle.trellis.proofs.Main.{refused-exactly, answers-least}
+use Rattle.trellis.proofs.Main.{refused-exactly}
 
 is_true : (t : Bool) → T t → t ≡ true
 is_true true _ = refl

@@ -1,7 +1,7 @@
 -- What the answers of the trellis mean (demand 3 of document 01), for a book and a block that pass checks 1 to 13. Assumes nothing.
-use mathlib.Core.Path.{◌≡◌, refl, sym, ap, ◌∙◌, subst}
+use mathlib.Core.Path.{◌≡◌, refl}
 use mathlib.Core.Logic.{◌↔◌}
-use mathlib.Core.Bool.{Bool, true, false, not, cond}
+use mathlib.Core.Bool.{Bool, true, false, cond}
 use mathlib.Core.List.{List}
 use Prim.Native.Nat.{ℕ}
 use native.Mathlib.Omega.{arith}
@@ -11,10 +11,8 @@ use lib.Ieee.{Float, inf}
 use lib.Ieee.Scale.{finite}
 use Rattle.block.specs.Band.{problem_of}
 use Rattle.block.specs.Block.{Block}
-use Rattle.block.specs.declared.Answer.{Answer}
-use Rattle.block.specs.declared.Answer.TheVariants.{Cost, Refused}
+use Rattle.block.specs.Answer.{Cost, Refused}
 use Rattle.block_checks.specs.Passed.{Passed}
-use Rattle.costs.specs.Cost.{cost}
 use Rattle.costs.proofs.Order.{infinite}
 use Rattle.least_cost.specs.Search.{least_total, least_count, Banded}
 use Rattle.least_cost.proofs.Whole.{least_total-cost}

@@ -1,25 +1,25 @@
 -- The walk: what each position's choice names, and what is written. Assumes nothing.
 use mathlib.Core.Path.{◌≡◌, refl, sym, ap, ap₂, ◌∙◌, subst, subst⁻¹}
-use mathlib.Core.Bool.{false, cond}
-use mathlib.Core.List.{List, [], ◌∷◌}
-use Prim.Native.Nat.{ℕ, zero, suc, ◌+◌, ◌-◌, ◌*◌, ◌/◌, ◌≤◌, ◌<◌, min, zero-le}
+use mathlib.Core.Bool.{cond}
+use mathlib.Core.List.{List, ◌∷◌}
+use Prim.Native.Nat.{ℕ, suc, ◌+◌, ◌-◌, ◌*◌, ◌/◌, ◌≤◌, ◌<◌, min, zero-le}
 use native.Mathlib.Omega.{arith}
 use native.Mathlib.Nat.{add-zero, le_trans, le_of_eq, mul-suc, mul-le-mul_left}
 use native.Mathlib.Numerals.{add-one}
 use lib.IntN.{ℤ, pos}
 use mir.Syntax.{w32}
 use mir.Val.{of_z, to_z}
-use lib.Dec.{T, leb, ltb}
+use lib.Dec.{T, leb}
 use lib.ListN.{length, get_or, drop, set, length-take}
 use lib.Seq.{get_or-take}
 use lib.Ieee.{Float}
 use lib.Ieee.Scale.{finite}
-use Rattle.block.specs.Block.{Block, covered, input_at, input_remaining, candidates_at}
+use Rattle.block.specs.Block.{Block, covered, input_remaining, candidates_at}
 use Rattle.block.specs.Band.{position_at, past_window, tail_of}
 use Rattle.block.specs.Checks.{choice_bytes}
 use Rattle.half_bytes.specs.Packed.{unpacked}
 use Rattle.candidates.specs.Candidates.{in_array}
-use Rattle.least_cost.specs.Position.{Position, Tail, nz}
+use Rattle.least_cost.specs.Position.{Position, nz}
 use Rattle.least_cost.specs.Search.{best, pick, walk}
 use Rattle.least_cost.proofs.Best.{AllPriced}
 use Rattle.least_cost.proofs.Trial.{nz-le}

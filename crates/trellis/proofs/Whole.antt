@@ -1,8 +1,8 @@
 -- What the whole search hands to its steps. Assumes nothing.
-use mathlib.Core.Path.{◌≡◌, sym, ap, ap₂, ◌∙◌, subst, subst⁻¹}
+use mathlib.Core.Path.{◌≡◌, sym, ap, ap₂, ◌∙◌, subst⁻¹}
 use mathlib.Core.Bool.{Bool, true, false, cond}
 use mathlib.Core.List.{List}
-use Prim.Native.Nat.{ℕ, ◌+◌, ◌-◌, ◌*◌, ◌≤◌, ◌<◌}
+use Prim.Native.Nat.{ℕ, ◌+◌, ◌-◌, ◌≤◌}
 use native.Mathlib.Nat.{add-zero}
 use native.Mathlib.Omega.{arith}
 use lib.IntN.{ℤ}
@@ -14,7 +14,7 @@ use Rattle.block.specs.Block.{Block, covered, input_remaining}
 use Rattle.block.specs.Band.{positions_from, problem_of, tail_of}
 use Rattle.block.specs.Checks.{states}
 use Rattle.block.specs.Cost.{first_prev}
-use Rattle.block.specs.declared.Answer.TheVariants.{Cost, Refused}
+use Rattle.block.specs.Answer.{Cost, Refused}
 use Rattle.costs.proofs.Order.{lt-inf}
 use Rattle.least_cost.specs.Search.{best, walk, least_total, least_count, least_levels}
 use Rattle.least_cost.proofs.Whole.{Sound, least_total-cost, best-finite}

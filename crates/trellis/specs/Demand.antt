@@ -8,8 +8,8 @@ use Rattle.block.specs.Block.{Block, with_levels, covered, input_remaining}
 use Rattle.block.specs.Checks.{valid_width, trellis_room, wide_room}
 use Rattle.block.specs.Choice.{IsChoice, window_levels}
 use Rattle.block.specs.Outcome.{Lent, Result, RefusedKeeps}
-use Rattle.block.specs.declared.Answer.{Answer}
-use Rattle.block.specs.declared.Answer.TheVariants.{Cost, Refused}
+use Rattle.block.specs.Answer.{Answer}
+use Rattle.block.specs.Answer.{Cost, Refused}
 use Rattle.exact.specs.Exact.{whole_exact}
 use Rattle.least_cost.specs.Search.{Banded, count_of, whole_cost, least_levels}
 use Rattle.prices.specs.Book.{Book}

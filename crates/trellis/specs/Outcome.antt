@@ -5,8 +5,8 @@ use Rattle.block.specs.Band.{problem_of}
 use Rattle.block.specs.Block.{Block, covered}
 use Rattle.block.specs.Checks.{search_refusal, trellis_room, wide_room}
 use Rattle.block.specs.Outcome.{Lent, Result, cleared, refused}
-use Rattle.block.specs.declared.Answer.{Answer}
-use Rattle.block.specs.declared.Answer.TheVariants.{Cost, Refused}
+use Rattle.block.specs.Answer.{Answer}
+use Rattle.block.specs.Answer.{Cost, Refused}
 use Rattle.least_cost.specs.Search.{least_total, least_count, least_levels}
 use Rattle.prices.specs.Book.{Book}
 use Rattle.scan.specs.Scan.{put}

@@ -5,19 +5,23 @@ mod search;
 mod walk;
 
 ghost use Rattle.std.specs.Prelude.{◌≡◌, ◌≤◌, ◌<◌};
-ghost use Rattle.block.specs.Block.{block_of, covered};
+ghost use Rattle.block.specs.Block.{covered};
 ghost use Rattle.block.specs.Checks.{choice_bytes};
 ghost use Rattle.block.specs.Outcome.{lent_of, result_of};
-ghost use Rattle.prices.specs.Book.{book_of, book_in};
+ghost use Rattle.prices.specs.Contents.{contents};
 ghost use Rattle.search_checks.specs.Checked.{Accepted};
 ghost use Rattle.weights.specs.Window.{window_for};
 ghost use Rattle.trellis.specs.Demand.{Promised};
 ghost use Rattle.trellis.specs.Outcome.{searched_outcome};
 ghost use Rattle.trellis.specs.Walk.{Roomy};
+ghost use Rattle.block.specs.Data.{block_with};
+ghost use Rattle.price_view.specs.View.{book_in};
+ghost use Rattle.block.specs.Answer.{answer_of};
 
-use bias::DequantBias;
-use block::{Answer, Shape};
-use weights::{SearchSettings, Settings};
+use block::{Answer, BlockData};
+use block_checks::{Asked, RoomLengths};
+use price_view::PriceView;
+use prices::book::PriceBook;
 
 // The choice bytes of a window position, half of a row's costs, for any half-width that a caller may set.
 pub fn choice_bytes(width: usize) -> usize
@@ -30,17 +34,8 @@ pub fn choice_bytes(width: usize) -> usize
 // The search alone, of a block that passed its checks: a band of half-width `width`, a window of at most `cap` positions, by the factored walk or by the other.
 pub fn search_banded(
     factored: bool,
-    map: &[u8],
-    configs: &[u8],
-    symbols: &[f32],
-    ready: &[f32],
-    shape: Shape,
-    settings: Settings,
-    bias: DequantBias,
-    scale: f32,
-    scan: &[u32],
-    source: &[f32],
-    inv_qm: &[f32],
+    book: &PriceBook,
+    block: &BlockData,
     levels: &mut [i32],
     choices: &mut [u8],
     row_a: &mut [f32],
@@ -49,19 +44,18 @@ pub fn search_banded(
     cap: usize,
 ) -> Answer
     requires width_bound { width ≤ 12 }
-    requires fact { let b = block_of shape settings bias scale scan.now source.now inv_qm.now levels.old in let v = window_for cap (covered b) in
-        Accepted v (book_in map.now configs.now symbols.now ready.now) b × Roomy width v choices.old row_a.old row_b.old }
-    ensures { let b = block_of shape settings bias scale scan.now source.now inv_qm.now levels.old in
-        result_of result levels.new choices.new row_a.new row_b.new
-        ≡ searched_outcome width (window_for cap (covered b)) (book_in map.now configs.now symbols.now ready.now) b
+    requires accepted { let b = block_with block.now levels.old in let v = window_for cap (covered b) in
+        Accepted v (contents book.now) b × Roomy width v choices.old row_a.old row_b.old }
+    ensures { let b = block_with block.now levels.old in
+        result_of (answer_of result) levels.new choices.new row_a.new row_b.new
+        ≡ searched_outcome width (window_for cap (covered b)) (contents book.now) b
         (lent_of levels.old choices.old row_a.old row_b.old) }
 {
-    let plan = steps::reading::plan_of(shape, settings, bias, scale, cap);
+    let plan = steps::reading::plan_of(block.shape, block.settings, block.bias, block.scale, cap);
     let found = search::search(
-        factored, map, configs, symbols, ready, scan, source, inv_qm, levels, plan, choices, row_a,
-        row_b, width,
+        factored, book, block, levels, plan, choices, row_a, row_b, width,
     );
-    let answer = search::write_found(scan, source, inv_qm, levels, plan, choices, found, width);
+    let answer = search::write_found(block, levels, plan, choices, found, width);
     rooms::clear_choices(choices);
     rooms::clear_row(row_a);
     rooms::clear_row(row_b);
@@ -74,69 +68,42 @@ pub fn search_banded(
 // may be 32,768 in size, which check 12 refuses in a later call.
 pub fn rdoq_block_banded(
     factored: bool,
-    clusters: u32,
-    map: &[u8],
-    configs: &[u8],
-    symbols: &[f32],
-    ready: &[f32],
-    shape: Shape,
-    settings: SearchSettings,
-    bias: DequantBias,
-    scale: f32,
-    scan: &[u32],
-    source: &[f32],
-    inv_qm: &[f32],
+    view: &PriceView,
+    block: &BlockData,
+    half_width: u32,
     levels: &mut [i32],
     choices: &mut [u8],
     row_a: &mut [f32],
     row_b: &mut [f32],
 ) -> Answer
-    ensures { Promised settings.half_width
-        (book_of clusters map.now configs.now symbols.now ready.now)
-        (block_of shape settings.weighing bias scale scan.now source.now inv_qm.now levels.old)
+    ensures { Promised half_width
+        (book_in view.now)
+        (block_with block.now levels.old)
         (lent_of levels.old choices.old row_a.old row_b.old)
-        (result_of result levels.new choices.new row_a.new row_b.new) }
+        (result_of (answer_of result) levels.new choices.new row_a.new row_b.new) }
 {
-    let width = settings.half_width as usize;
+    let width = half_width as usize;
     let bytes = choice_bytes(width);
-    let refusal = search_checks::check_search(
-        clusters,
-        map,
-        configs,
-        symbols,
-        ready,
-        shape,
-        settings.weighing,
-        bias,
-        scale,
-        scan,
-        source,
-        inv_qm,
+    let book = search_checks::check_search(
+        view,
+        block,
         levels,
-        settings.half_width,
+        half_width,
         weights::WINDOW_CAP,
-        bytes,
-        2 * bytes,
-        choices.len(),
-        row_a.len(),
-        row_b.len(),
-    );
-    if refusal != 0 {
-        return Answer::Refused(refusal);
-    }
+        Asked {
+            bytes: bytes,
+            floats: 2 * bytes,
+        },
+        RoomLengths {
+            choices: choices.len(),
+            row_a: row_a.len(),
+            row_b: row_b.len(),
+        },
+    )?;
     search_banded(
         factored,
-        map,
-        configs,
-        symbols,
-        ready,
-        shape,
-        settings.weighing,
-        bias,
-        scale,
-        scan,
-        source,
-        inv_qm,
+        &book,
+        block,
         levels,
         choices,
         row_a,

@@ -2,16 +2,20 @@
 ghost use Rattle.std.specs.Prelude.{◌≡◌, ◌*◌, ◌≤◌, length};
 ghost use Rattle.block.specs.Block.{Block};
 ghost use Rattle.block.specs.Checks.{choice_bytes, states};
-ghost use Rattle.prices.specs.Book.{Book, book_in};
+ghost use Rattle.prices.specs.Book.{Book};
+ghost use Rattle.prices.specs.Contents.{contents};
 ghost use Rattle.search_checks.specs.Checked.{Searched};
 ghost use Rattle.search_checks.specs.Start.{Starts};
 ghost use Rattle.trellis_table.specs.Rows.{TailRow, Kept};
 ghost use Rattle.weights.specs.declared.Window.{Window};
 ghost use Rattle.trellis.specs.Walk.{FoundIn, Done};
 ghost use Rattle.trellis.specs.Outcome.{answered, written};
+ghost use Rattle.block.specs.Answer.{answer_of};
 
 use crate::walk;
-use block::Answer;
+use block::{Answer, BlockData, Picked};
+use prices::book::PriceBook;
+use refusals::Refusal;
 use search_checks::start;
 use search_checks::start::Start;
 use steps::reading::Plan;
@@ -38,23 +42,19 @@ fn start_row(start: Start, row: &mut [f32])
 
 // Writes the levels of a finite least cost; else refuses with 15.
 pub(crate) fn write_found(
-    scan: &[u32],
-    source: &[f32],
-    inv_qm: &[f32],
+    block: &BlockData,
     levels: &mut [i32],
     plan: Plan,
     choices: &[u8],
     found: Found,
     width: usize,
 ) -> Answer
-    requires { Done width scan.now source.now inv_qm.now levels.old plan choices.now found }
-    ensures { (d : Done width scan.now source.now inv_qm.now levels.old plan choices.now found) → (result ≡ answered width plan.window d.book d.searched.block) × (levels.new ≡ written width plan.window d.book d.searched.block) }
+    requires { Done width block.now.scan.now block.now.source.now block.now.inv_qm.now levels.old plan choices.now found }
+    ensures { (d : Done width block.now.scan.now block.now.source.now block.now.inv_qm.now levels.old plan choices.now found) → (answer_of result ≡ answered width plan.window d.book d.searched.block) × (levels.new ≡ written width plan.window d.book d.searched.block) }
 {
     if found.cost < costs::infinity() {
         walk::write_levels(
-            scan,
-            source,
-            inv_qm,
+            block,
             levels,
             plan,
             found.past,
@@ -63,24 +63,19 @@ pub(crate) fn write_found(
             found.count,
             width,
         );
-        return Answer::Cost {
-            cost: found.cost,
+        return Ok(Picked {
+            cost: Some(found.cost),
             count: found.count as u32,
-        };
+        });
     }
-    Answer::Refused(15)
+    Err(Refusal::BandInfinite)
 }
 
 // The search of a block that passed its checks.
 pub(crate) fn search(
     factored: bool,
-    map: &[u8],
-    configs: &[u8],
-    symbols: &[f32],
-    ready: &[f32],
-    scan: &[u32],
-    source: &[f32],
-    inv_qm: &[f32],
+    book: &PriceBook,
+    block: &BlockData,
     levels: &[i32],
     plan: Plan,
     choices: &mut [u8],
@@ -88,24 +83,23 @@ pub(crate) fn search(
     row_b: &mut [f32],
     width: usize,
 ) -> Found
-    requires width_bound { (width ≤ 12) × Searched (book_in map.now configs.now symbols.now ready.now) scan.now source.now inv_qm.now levels.now plan }
+    requires width_bound { (width ≤ 12) × Searched (contents book.now) block.now.scan.now block.now.source.now block.now.inv_qm.now levels.now plan }
     requires width_in_bounds { (states width ≤ length row_a.old) × ((states width ≤ length row_b.old) × (choice_bytes width * plan.window.length ≤ length choices.old)) }
     ensures kept { Kept row_a.old row_a.new row_b.old row_b.new choices.old choices.new }
-    ensures found_in { (s : Searched (book_in map.now configs.now symbols.now ready.now) scan.now source.now inv_qm.now levels.now plan) → FoundIn width plan.window (book_in map.now configs.now symbols.now ready.now) s.block choices.new result }
+    ensures found_in { (s : Searched (contents book.now) block.now.scan.now block.now.source.now block.now.inv_qm.now levels.now plan) → FoundIn width plan.window (contents book.now) s.block choices.new result }
 {
-    let start = start::start_of(map, configs, symbols, ready, plan, scan, levels);
+    let start = start::start_of(book, plan, block.scan, levels);
     let past = start.past;
     start_row(start, row_a);
     let last = exchange::take_positions(
-        factored, map, configs, symbols, ready, scan, source, inv_qm, levels, plan, past, row_a,
-        row_b, choices, width,
+        factored, book, block, levels, plan, past, row_a, row_b, choices, width,
     );
     let step = last.step;
     let live = exchange::live_row(row_a, row_b, last.in_first);
-    let best = count::best_count(map, configs, symbols, ready, plan, live, step.counts);
+    let best = count::best_count(book, plan, live, step.counts);
     Found {
         cost: best.cost,
-        count: best.count,
+        count: best.choice,
         past,
         nonzeros: step.after,
     }

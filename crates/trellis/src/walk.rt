@@ -6,6 +6,7 @@ ghost use Rattle.half_bytes.specs.Packed.{unpacked};
 ghost use Rattle.scan.specs.Scan.{put};
 ghost use Rattle.trellis.specs.Walk.{Walkable, walked};
 
+use block::BlockData;
 use steps::reading::Plan;
 use trellis_table::position;
 
@@ -27,9 +28,7 @@ fn choice_at(
 
 // `nonzeros` counts the input's from the first position on, `count` those that the walk leaves.
 pub(crate) fn write_levels(
-    scan: &[u32],
-    source: &[f32],
-    inv_qm: &[f32],
+    block: &BlockData,
     levels: &mut [i32],
     plan: Plan,
     past: usize,
@@ -38,8 +37,8 @@ pub(crate) fn write_levels(
     count: usize,
     width: usize,
 )
-    requires { Walkable width scan.now source.now inv_qm.now levels.old plan past nonzeros choices.now count }
-    ensures { (w : Walkable width scan.now source.now inv_qm.now levels.old plan past nonzeros choices.now count) → levels.new ≡ put scan.now (walked width plan.window w.book w.searched.block count) (covered w.searched.block) plan.window.length levels.old }
+    requires { Walkable width block.now.scan.now block.now.source.now block.now.inv_qm.now levels.old plan past nonzeros choices.now count }
+    ensures { (w : Walkable width block.now.scan.now block.now.source.now block.now.inv_qm.now levels.old plan past nonzeros choices.now count) → levels.new ≡ put block.now.scan.now (walked width plan.window w.book w.searched.block count) (covered w.searched.block) plan.window.length levels.old }
 {
     let window = plan.window;
     let covered = plan.covered;
@@ -48,11 +47,11 @@ pub(crate) fn write_levels(
     let mut after = nonzeros;
     let mut offered = [0i32; 5];
     for i in 0..window.length {
-        let offer = plan.offer(scan, source, inv_qm, levels, i, &mut offered);
+        let offer = plan.offer(block, levels, i, &mut offered);
         after -= steps::nonzero(offer.level);
         let least = position::least_count(past, after, width);
         let level = offered[choice_at(choices, i, least, left, prev, width)];
-        steps::write_level(scan, levels, covered + i, level);
+        steps::write_level(block.scan, levels, covered + i, level);
         prev = steps::nonzero(level);
         left -= prev;
     }

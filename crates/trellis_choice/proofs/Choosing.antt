@@ -4,7 +4,7 @@ use mathlib.Core.Bool.{Bool, true, false, cond, not, ◌||◌, true≢false}
 use mathlib.Core.List.Memᴰ.{head as here}
 use mathlib.Core.List.Memᴰ.{tail as there}
 use mathlib.Core.List.{List, [], ◌∷◌, Memᴰ as Mem}
-use Prim.Native.Nat.{ℕ, zero, ◌<◌}
+use Prim.Native.Nat.{ℕ, ◌<◌}
 use native.Mathlib.Omega.{arith}
 use lib.IntN.{ℤ, pos}
 use lib.Dec.{T, eqb, ltb}
@@ -25,7 +25,6 @@ use Rattle.trellis_choice.specs.Locals.{FirstLeast}
 use Rattle.trellis_choice.specs.Chosen.{with, nonzero_cost, zero_cost, state_cost, state_level, Known, ZeroAt, Settled}
 use Rattle.trellis_choice.proofs.Noting.{zero_is}
 use Rattle.trellis_choice.specs.declared.locals.Least.{Least}
-use Rattle.trellis_choice.specs.declared.chosen.Chosen.{Chosen}
 
 module _ (g : ℤ → Float) (levels : List ℤ) (G : (c : ℤ) → Mem c levels → T (cost (g c))) where
   among : (c : ℤ) → Mem c (nonzeros levels) → T (cost (g c))

@@ -22,10 +22,7 @@ pub struct Chosen {
 fn ties(level: i32, local: f32, tail: f32, cost: f32) -> bool
     ensures { result ≡ is_tie level local tail cost }
 {
-    if level == 0 {
-        return false;
-    }
-    local + tail == cost
+    level != 0 && local + tail == cost
 }
 
 // The first nonzero candidate whose cost with the tail is `cost`, else `other`.
@@ -40,12 +37,10 @@ fn first_tied(
     requires { Usable (in_array count levels.now) }
     ensures { (g : ℤ → Float) → Each g (listed (in_array count levels.now)) local.now → get_or (listed (in_array count levels.now)) result (pos 0) ≡ first_equal (with g tail) cost (get_or (listed (in_array count levels.now)) other (pos 0)) (nonzeros (listed (in_array count levels.now))) }
 {
-    let mut j = 0;
-    while j < count {
-        if ties(levels[j], local[j], tail, cost) {
+    for (j, &level) in levels[..count].iter().enumerate() {
+        if ties(level, local[j], tail, cost) {
             return j as u8;
         }
-        j += 1;
     }
     other
 }
@@ -56,12 +51,10 @@ pub fn zero_index(levels: &[i32; 5], count: usize) -> u8
     ensures zero_at { ZeroAt (listed (in_array count levels.now)) result }
     ensures value { has_zero (listed (in_array count levels.now)) ≡ false → result ≡ 255 }
 {
-    let mut j = 0;
-    while j < count {
-        if levels[j] == 0 {
+    for (j, &level) in levels[..count].iter().enumerate() {
+        if level == 0 {
             return j as u8;
         }
-        j += 1;
     }
     255
 }

@@ -1,11 +1,11 @@
 // Local costs, worked out once for all counts that share a context.
 ghost use Rattle.std.specs.Prelude.{◌≡◌, ◌+◌, ◌<◌, length};
 ghost use Rattle.candidates.specs.Candidates.{in_array};
-ghost use Rattle.prices.specs.Book.{book_in};
-ghost use Rattle.prices.specs.Checks.{book_refusal};
+ghost use Rattle.prices.specs.Contents.{contents};
 ghost use Rattle.steps.specs.Place.{distortion_at, local_in};
 ghost use Rattle.trellis_choice.specs.Locals.{listed, Usable, nothing, considered, noted, Empty, Each, Located};
 
+use prices::book::PriceBook;
 use steps::Place;
 
 // The first least of some costs, what it took the place of, and its candidate's index.
@@ -87,10 +87,7 @@ impl Locals {
 
 // The local costs in one context, their distortions at hand: in `first` for `prev` 0, in `second` for `prev` 1. Lent, they are not copied.
 pub fn locals_in(
-    map: &[u8],
-    configs: &[u8],
-    symbols: &[f32],
-    ready: &[f32],
+    book: &PriceBook,
     place: Place,
     levels: &[i32; 5],
     count: usize,
@@ -99,25 +96,21 @@ pub fn locals_in(
     first: &mut [f32; 5],
     second: &mut [f32; 5],
 ) -> Locals
-    requires ready_value { book_refusal (book_in map.now configs.now symbols.now ready.now) ≡ 0 }
     requires context_bound { context + 1 < 14850 }
     requires usable { Usable (in_array count levels.now) }
     requires each { Each (distortion_at place) (listed (in_array count levels.now)) distortion.now }
     requires first_len { (length first.old ≡ 5) × (length second.old ≡ 5) }
-    ensures located { Located (local_in (book_in map.now configs.now symbols.now ready.now) place context 0)
-        (local_in (book_in map.now configs.now symbols.now ready.now) place context 1)
+    ensures located { Located (local_in (contents book.now) place context 0)
+        (local_in (contents book.now) place context 1)
         (listed (in_array count levels.now)) first.new second.new result }
-    ensures first_len_2 { (length first.new ≡ 5) × (length second.new ≡ 5) }
+    ensures lengths_kept { (length first.new ≡ 5) × (length second.new ≡ 5) }
 {
     let mut locals = Locals::none();
-    let mut j = 0;
-    while j < count {
-        let level = levels[j];
-        let pair = place.local_pair(map, configs, symbols, ready, context, level, distortion[j]);
+    for (j, &level) in levels[..count].iter().enumerate() {
+        let pair = place.local_pair(book, context, level, distortion[j]);
         first[j] = pair.first;
         second[j] = pair.second;
         locals = locals.note(j, level, pair.first, pair.second);
-        j += 1;
     }
     locals
 }

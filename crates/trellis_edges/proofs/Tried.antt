@@ -13,7 +13,6 @@ use lib.Dec.{T, eqb, leb, ltb}
 use lib.ListN.{length, get_or, set, take, length-set}
 use lib.Seq.{get_or-set_same, get_or-set_other, take-suc, take-length}
 use lib.Ieee.{Float, nan, inf, lt, add, binary32}
-use lib.Ieee.Scale.{finite}
 use borrow.Author.Tests.{eqb-true, eqb-false, ltb-true, ltb-false, leb-true, le-leb, lt-leb}
 use Rattle.candidates.specs.declared.Candidates.{Candidates}
 use Rattle.costs.specs.Cost.{cost}

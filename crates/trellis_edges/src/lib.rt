@@ -6,13 +6,14 @@ ghost use Rattle.std.specs.Float.Ieee.{add};
 ghost use Rattle.std.specs.Float.{binary32};
 ghost use Rattle.candidates.specs.Candidates.{in_array};
 ghost use Rattle.half_bytes.specs.Packed.{unpacked};
-ghost use Rattle.prices.specs.Book.{book_in};
+ghost use Rattle.prices.specs.Contents.{contents};
 ghost use Rattle.steps.specs.Place.{distortion_at};
 ghost use Rattle.trellis_choice.specs.Locals.{listed, Each};
 ghost use Rattle.trellis_row.specs.Row.{RowIs, Elsewhere, Workable};
 ghost use Rattle.trellis_edges.specs.Edges.{lesser, choice_of, Updated, Tried, Cleared};
 
 use prices::Pair;
+use prices::book::PriceBook;
 use steps::Place;
 use trellis_choice::chosen::Chosen;
 use trellis_row::row;
@@ -60,10 +61,7 @@ fn update_pair(
 
 // The edge from count `n` of the next row over the candidate at `j`: none to a count outside the row, and none where nothing finite follows.
 fn try_edge(
-    map: &[u8],
-    configs: &[u8],
-    symbols: &[f32],
-    ready: &[f32],
+    book: &PriceBook,
     place: Place,
     levels: &[i32; 5],
     count: usize,
@@ -78,38 +76,32 @@ fn try_edge(
     n: usize,
     j: usize,
 )
-    requires workable { Workable (book_in map.now configs.now symbols.now ready.now) place (in_array count levels.now) next.now span most }
+    requires workable { Workable (contents book.now) place (in_array count levels.now) next.now span most }
     requires each { Each (distortion_at place) (listed (in_array count levels.now)) distortion.now }
     requires least_le_most { (least ≤ most) × ((2 * (most - least) + 1 < length current.old) × (2 * at + 2 * (most - least) + 1 < length (unpacked choices.old))) }
     requires n_le_most { (n ≤ most) × (j < count) }
-    requires tried { Tried (book_in map.now configs.now symbols.now ready.now) place (listed (in_array count levels.now)) next.now span least most (2 * at) n j current.old (unpacked choices.old) }
+    requires tried { Tried (contents book.now) place (listed (in_array count levels.now)) next.now span least most (2 * at) n j current.old (unpacked choices.old) }
     ensures current_len_unchanged { length current.new ≡ length current.old }
     ensures elsewhere { Elsewhere (2 * at) (2 * (most + 1 - least)) (unpacked choices.old) (unpacked choices.new) }
-    ensures tried_2 { Tried (book_in map.now configs.now symbols.now ready.now) place (listed (in_array count levels.now)) next.now span least most (2 * at) n (j + 1) current.new (unpacked choices.new) }
+    ensures tried_after { Tried (contents book.now) place (listed (in_array count levels.now)) next.now span least most (2 * at) n (j + 1) current.new (unpacked choices.new) }
 {
     let level = levels[j];
     let nonzero = steps::nonzero(level);
     let r = n + nonzero;
-    if r < least {
-        return;
-    }
-    if most < r {
+    if r < least || most < r {
         return;
     }
     let tail = row::tail_at(next, span, n, nonzero);
     if tail < costs::infinity() {
         let context = place.context(r);
-        let local = place.local_pair(map, configs, symbols, ready, context, level, distortion[j]);
+        let local = place.local_pair(book, context, level, distortion[j]);
         update_pair(local, tail, j as u8, current, choices, r - least, at);
     }
 }
 
 // All edges from count `n` of the next row.
 fn edges_from(
-    map: &[u8],
-    configs: &[u8],
-    symbols: &[f32],
-    ready: &[f32],
+    book: &PriceBook,
     place: Place,
     levels: &[i32; 5],
     count: usize,
@@ -123,41 +115,26 @@ fn edges_from(
     most: usize,
     n: usize,
 )
-    requires workable { Workable (book_in map.now configs.now symbols.now ready.now) place (in_array count levels.now) next.now span most }
+    requires workable { Workable (contents book.now) place (in_array count levels.now) next.now span most }
     requires each { Each (distortion_at place) (listed (in_array count levels.now)) distortion.now }
     requires least_le_most { (least ≤ most) × ((2 * (most - least) + 1 < length current.old) × (2 * at + 2 * (most - least) + 1 < length (unpacked choices.old))) }
     requires n_le_most { n ≤ most }
-    requires tried { Tried (book_in map.now configs.now symbols.now ready.now) place (listed (in_array count levels.now)) next.now span least most (2 * at) n 0 current.old (unpacked choices.old) }
+    requires tried { Tried (contents book.now) place (listed (in_array count levels.now)) next.now span least most (2 * at) n 0 current.old (unpacked choices.old) }
     ensures current_len_unchanged { length current.new ≡ length current.old }
     ensures elsewhere { Elsewhere (2 * at) (2 * (most + 1 - least)) (unpacked choices.old) (unpacked choices.new) }
-    ensures tried_2 { Tried (book_in map.now configs.now symbols.now ready.now) place (listed (in_array count levels.now)) next.now span least most (2 * at) (n + 1) 0 current.new (unpacked choices.new) }
+    ensures tried_after { Tried (contents book.now) place (listed (in_array count levels.now)) next.now span least most (2 * at) (n + 1) 0 current.new (unpacked choices.new) }
 {
-    let mut j = 0;
-    while j < count {
+    for j in 0..count {
         try_edge(
-            map, configs, symbols, ready, place, levels, count, distortion, next, span, current,
-            choices, at, least, most, n, j,
+            book, place, levels, count, distortion, next, span, current, choices, at, least, most,
+            n, j,
         );
-        j += 1;
     }
-}
-
-// The last count whose edges may lead into the row.
-fn last_count(span: Span, most: usize) -> usize
-    ensures { (result ≤ most) × ((n : ℕ) → result < n → n ≤ most → span.upto < n) }
-{
-    if span.upto < most {
-        return span.upto;
-    }
-    most
 }
 
 // All edges of the row, whose states are at +infinity.
 fn all_edges(
-    map: &[u8],
-    configs: &[u8],
-    symbols: &[f32],
-    ready: &[f32],
+    book: &PriceBook,
     place: Place,
     levels: &[i32; 5],
     count: usize,
@@ -170,22 +147,20 @@ fn all_edges(
     least: usize,
     most: usize,
 )
-    requires workable { Workable (book_in map.now configs.now symbols.now ready.now) place (in_array count levels.now) next.now span most }
+    requires workable { Workable (contents book.now) place (in_array count levels.now) next.now span most }
     requires each { Each (distortion_at place) (listed (in_array count levels.now)) distortion.now }
     requires least_le_most { (least ≤ most) × ((2 * (most - least) + 1 < length current.old) × (2 * at + 2 * (most - least) + 1 < length (unpacked choices.old))) }
     requires cleared { Cleared (2 * at) (2 * (most + 1 - least)) current.old (unpacked choices.old) }
     ensures current_len_unchanged { length current.new ≡ length current.old }
     ensures elsewhere { Elsewhere (2 * at) (2 * (most + 1 - least)) (unpacked choices.old) (unpacked choices.new) }
-    ensures row_is { RowIs (book_in map.now configs.now symbols.now ready.now) place (listed (in_array count levels.now)) next.now span least (2 * at) (2 * (most + 1 - least)) current.new (unpacked choices.new) }
+    ensures row_is { RowIs (contents book.now) place (listed (in_array count levels.now)) next.now span least (2 * at) (2 * (most + 1 - least)) current.new (unpacked choices.new) }
 {
-    let end = last_count(span, most);
-    let mut n = span.from;
-    while n <= end {
+    // No edge leads into the row from a count past `most`.
+    for n in span.from..=span.upto.min(most) {
         edges_from(
-            map, configs, symbols, ready, place, levels, count, distortion, next, span, current,
-            choices, at, least, most, n,
+            book, place, levels, count, distortion, next, span, current, choices, at, least, most,
+            n,
         );
-        n += 1;
     }
 }
 
@@ -196,19 +171,14 @@ fn clear(current: &mut [f32], choices: &mut [u8], at: usize, n: usize)
     ensures elsewhere { Elsewhere (2 * at) (2 * n) (unpacked choices.old) (unpacked choices.new) }
     ensures cleared { Cleared (2 * at) (2 * n) current.new (unpacked choices.new) }
 {
-    let mut k = 0;
-    while k < n {
+    for k in 0..n {
         row::write_pair(current, choices, k, at, row::unreachable());
-        k += 1;
     }
 }
 
 // The states of the counts from `least` to `most`: their costs from the front of `current`, their choices from byte `at` on.
 pub fn fill_row(
-    map: &[u8],
-    configs: &[u8],
-    symbols: &[f32],
-    ready: &[f32],
+    book: &PriceBook,
     place: Place,
     levels: &[i32; 5],
     count: usize,
@@ -220,20 +190,17 @@ pub fn fill_row(
     least: usize,
     most: usize,
 )
-    requires workable { Workable (book_in map.now configs.now symbols.now ready.now) place (in_array count levels.now) next.now span most }
+    requires workable { Workable (contents book.now) place (in_array count levels.now) next.now span most }
     requires least_le_most { (least ≤ most) × ((2 * (most - least) + 1 < length current.old) × (2 * at + 2 * (most - least) + 1 < length (unpacked choices.old))) }
     ensures current_len_unchanged { length current.new ≡ length current.old }
     ensures elsewhere { Elsewhere (2 * at) (2 * (most + 1 - least)) (unpacked choices.old) (unpacked choices.new) }
-    ensures row_is { RowIs (book_in map.now configs.now symbols.now ready.now) place (listed (in_array count levels.now)) next.now span least (2 * at) (2 * (most + 1 - least)) current.new (unpacked choices.new) }
+    ensures row_is { RowIs (contents book.now) place (listed (in_array count levels.now)) next.now span least (2 * at) (2 * (most + 1 - least)) current.new (unpacked choices.new) }
 {
     let mut distortion = [0.0f32; 5];
     steps::reading::distortions(place, levels, count, &mut distortion);
     clear(current, choices, at, most + 1 - least);
     all_edges(
-        map,
-        configs,
-        symbols,
-        ready,
+        book,
         place,
         levels,
         count,

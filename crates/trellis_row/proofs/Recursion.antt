@@ -1,5 +1,5 @@
 -- A state's cost and level are those of the recursion's step. Assumes nothing.
-use mathlib.Core.Path.{◌≡◌, refl, sym, ap, ◌∙◌, subst, subst⁻¹}
+use mathlib.Core.Path.{◌≡◌, refl, sym, ap, ◌∙◌, subst⁻¹}
 use mathlib.Core.Bool.{Bool, true, false, cond, not, ◌&&◌}
 use mathlib.Core.List.Memᴰ.{head as here}
 use mathlib.Core.List.Memᴰ.{tail as there}
@@ -8,7 +8,6 @@ use Prim.Native.Nat.{ℕ, ◌-◌}
 use lib.IntN.{ℤ, pos}
 use lib.Dec.{T, leb}
 use lib.Ieee.{Float, inf, lt, add, binary32}
-use lib.Ieee.Scale.{finite}
 use Rattle.costs.specs.Cost.{cost}
 use Rattle.costs.proofs.Order.{inf-lt}
 use Rattle.costs.proofs.Sum.{add-inf, add-cost}

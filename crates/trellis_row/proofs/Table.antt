@@ -1,5 +1,5 @@
 -- A row that was worked out from the row after it stands for one position more. Assumes nothing.
-use mathlib.Core.Path.{◌≡◌, refl, sym, ap, ◌∙◌, subst, subst⁻¹}
+use mathlib.Core.Path.{◌≡◌, refl, sym, ap, ◌∙◌, subst⁻¹}
 use mathlib.Core.Bool.{Bool, true, false, cond, not, ◌&&◌, true≢false}
 use mathlib.Core.List.{List, ◌∷◌, Memᴰ as Mem}
 use Prim.Native.Nat.{ℕ, ◌+◌, ◌-◌, ◌*◌, ◌/◌, ◌%◌, ◌≤◌, ◌<◌}
@@ -14,7 +14,7 @@ use borrow.Author.Tests.{leb-true, leb-false, le-leb}
 use Rattle.costs.specs.Cost.{cost}
 use Rattle.costs.proofs.Order.{infinite}
 use Rattle.least_cost.specs.Position.{Position, Tail, nz, within}
-use Rattle.least_cost.specs.Search.{least, nonzeros, has_zero, best, pick}
+use Rattle.least_cost.specs.Search.{nonzeros, has_zero, best, pick}
 use Rattle.least_cost.proofs.First.{least-same, holder-same}
 use Rattle.least_cost.proofs.Step.{allowed-within}
 use Rattle.least_cost.proofs.Trial.{nonzeros-listed, nz-le}

@@ -7,12 +7,14 @@ ghost use Rattle.candidates.specs.Candidates.{in_array};
 ghost use Rattle.costs.specs.Cost.{cost as is_cost};
 ghost use Rattle.least_cost.specs.Search.{has_zero};
 ghost use Rattle.half_bytes.specs.Packed.{unpacked, kept};
-ghost use Rattle.prices.specs.Book.{Book, book_in};
+ghost use Rattle.prices.specs.Book.{Book};
+ghost use Rattle.prices.specs.Contents.{contents};
 ghost use Rattle.steps.specs.Place.{context_at};
 ghost use Rattle.trellis_choice.specs.Locals.{listed, Usable, Located};
 ghost use Rattle.trellis_choice.specs.Chosen.{ZeroAt, Settled};
 ghost use Rattle.trellis_row.specs.Row.{tail_at, nonzero_tail, RowIs, Elsewhere, Coding, Workable, Ready};
 
+use prices::book::PriceBook;
 use steps::Place;
 use trellis_choice::chosen::Chosen;
 use trellis_choice::locals::Locals;
@@ -37,14 +39,10 @@ pub fn tail_at(next: &[f32], span: Span, r: usize, prev: usize) -> f32
     requires { (span.base ≤ span.from) × ((span.from ≤ span.upto → 2 * (span.upto - span.base) + 1 < length next.now) × (prev ≤ 1)) }
     ensures { result ≡ tail_at next.now span r prev }
 {
-    if r < span.from {
+    if r < span.from || span.upto < r {
         return costs::infinity();
     }
-    if span.upto < r {
-        return costs::infinity();
-    }
-    let at = 2 * (r - span.base) + prev;
-    next[at]
+    next[2 * (r - span.base) + prev]
 }
 
 pub fn nonzero_tail(next: &[f32], span: Span, r: usize) -> f32
@@ -128,13 +126,7 @@ fn infinite(x: f32, z: f32) -> bool
     ensures { result ≡ true → ((lt x (inf false) ≡ false) × (lt z (inf false) ≡ false)) }
 {
     let none = costs::infinity();
-    if x < none {
-        return false;
-    }
-    if z < none {
-        return false;
-    }
-    true
+    !(x < none || z < none)
 }
 
 // Both states where nothing finite follows.
@@ -200,8 +192,7 @@ pub fn run_end(place: Place, from: usize, most: usize) -> usize
     if from == 0 {
         return 0;
     }
-    let end = ac_context::last_count_alike(from, place.covered, place.log2);
-    if end < most { end } else { most }
+    ac_context::last_count_alike(from, place.covered, place.log2).min(most)
 }
 
 // The states of the counts from `from` to `upto`, which share their local costs.
@@ -231,22 +222,17 @@ fn fill_run(
         → RowIs book x (listed (in_array count levels.now)) next.now span least (2 * at) (2 * (from - least)) current.old (unpacked choices.old)
         → RowIs book x (listed (in_array count levels.now)) next.now span least (2 * at) (2 * (upto + 1 - least)) current.new (unpacked choices.new) }
 {
-    let mut r = from;
-    while r <= upto {
+    for r in from..=upto {
         row_state(
             levels, count, first, second, locals, zero, next, span, current, choices, at, least, r,
         );
-        r += 1;
     }
 }
 
 // The states of the counts from `least` to `most`: their costs from the front of `current`, their choices from byte `at` on. Counts that
 // share a context share their local costs, which are worked out from the first of them that something finite follows.
 pub fn fill_row(
-    map: &[u8],
-    configs: &[u8],
-    symbols: &[f32],
-    ready: &[f32],
+    book: &PriceBook,
     place: Place,
     levels: &[i32; 5],
     count: usize,
@@ -258,17 +244,18 @@ pub fn fill_row(
     least: usize,
     most: usize,
 )
-    requires workable { Workable (book_in map.now configs.now symbols.now ready.now) place (in_array count levels.now) next.now span most }
+    requires workable { Workable (contents book.now) place (in_array count levels.now) next.now span most }
     requires least_le_most { (least ≤ most) × ((2 * (most - least) + 1 < length current.old) × (2 * at + 2 * (most - least) + 1 < length (unpacked choices.old))) }
     ensures current_len_unchanged { length current.new ≡ length current.old }
     ensures elsewhere { Elsewhere (2 * at) (2 * (most + 1 - least)) (unpacked choices.old) (unpacked choices.new) }
-    ensures row_is { RowIs (book_in map.now configs.now symbols.now ready.now) place (listed (in_array count levels.now)) next.now span least (2 * at) (2 * (most + 1 - least)) current.new (unpacked choices.new) }
+    ensures row_is { RowIs (contents book.now) place (listed (in_array count levels.now)) next.now span least (2 * at) (2 * (most + 1 - least)) current.new (unpacked choices.new) }
 {
     let mut distortion = [0.0f32; 5];
     let mut first = [0.0f32; 5];
     let mut second = [0.0f32; 5];
     steps::reading::distortions(place, levels, count, &mut distortion);
     let zero = chosen::zero_index(levels, count);
+    // By runs of counts, not count by count.
     let mut r = least;
     while r <= most {
         let x = nonzero_tail(next, span, r);
@@ -280,10 +267,7 @@ pub fn fill_row(
         }
         let context = place.context(r);
         let locals = locals::locals_in(
-            map,
-            configs,
-            symbols,
-            ready,
+            book,
             place,
             levels,
             count,

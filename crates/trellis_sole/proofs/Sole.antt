@@ -14,7 +14,7 @@ use lib.Ieee.Fits.{mul-fits}
 use lib.Ieee.Scale.{finite}
 use Rattle.candidates.specs.declared.Candidates.{Candidates}
 use Rattle.costs.specs.Cost.{cost}
-use Rattle.costs.proofs.Order.{infinite, lt-inf, inf-lt}
+use Rattle.costs.proofs.Order.{lt-inf, inf-lt}
 use Rattle.costs.proofs.Sum.{add-cost, add-inf, add-zero}
 use Rattle.least_cost.specs.Position.{nz}
 use Rattle.least_cost.specs.Search.{least, holder, nonzeros, has_zero}
@@ -25,7 +25,7 @@ use Rattle.block.specs.Cost.{distortion_of}
 use Rattle.steps.specs.Place.{distortion_at, context_at, rated_in, local_in, local_at}
 use Rattle.steps.specs.Plan.{listed, Usable}
 use Rattle.steps.specs.declared.Place.{Place}
-use Rattle.trellis_choice.specs.Chosen.{with, state_cost, state_level, nonzero_cost, zero_cost, Settled}
+use Rattle.trellis_choice.specs.Chosen.{state_cost, state_level, nonzero_cost, zero_cost, Settled}
 use Rattle.trellis_row.specs.Row.{tail_at, nonzero_tail, zero_tail, Workable}
 use Rattle.trellis_row.specs.declared.row.Span.{Span}
 use Rattle.trellis_row.specs.declared.row.States.{States}

@@ -5,13 +5,14 @@ ghost use Rattle.std.specs.Prelude.{◌≡◌, ◌∷◌, [], ℕ, ◌+◌, ◌-
 ghost use Rattle.bias.specs.Level.{is_level};
 ghost use Rattle.candidates.specs.Candidates.{in_array};
 ghost use Rattle.half_bytes.specs.Packed.{unpacked};
-ghost use Rattle.prices.specs.Book.{Book, book_in};
-ghost use Rattle.prices.specs.Checks.{book_refusal};
+ghost use Rattle.prices.specs.Book.{Book};
+ghost use Rattle.prices.specs.Contents.{contents};
 ghost use Rattle.trellis_choice.specs.Locals.{listed};
 ghost use Rattle.trellis_row.specs.Row.{RowIs, Elsewhere, Workable};
 ghost use Rattle.trellis_sole.specs.Sole.{sole_tail, sole_chosen, sole_states, TokenIs, SoleReady};
 
 use prices::Pair;
+use prices::book::PriceBook;
 use steps::Place;
 use trellis_choice::chosen::Chosen;
 use trellis_row::row;
@@ -49,19 +50,10 @@ fn states_of(distortion: f32, token: Pair, tail: f32) -> States
 }
 
 // The token's rated prices; none where nothing remains.
-fn token_of(
-    map: &[u8],
-    configs: &[u8],
-    symbols: &[f32],
-    ready: &[f32],
-    place: Place,
-    context: usize,
-    level: i32,
-) -> Pair
-    requires ready_value { book_refusal (book_in map.now configs.now symbols.now ready.now) ≡ 0 }
+fn token_of(book: &PriceBook, place: Place, context: usize, level: i32) -> Pair
     requires context_bound { context + 1 < 14850 }
     requires t { T (is_level level) }
-    ensures { TokenIs (book_in map.now configs.now symbols.now ready.now) place context level result }
+    ensures { TokenIs (contents book.now) place context level result }
 {
     if context == 0 {
         return Pair {
@@ -69,7 +61,7 @@ fn token_of(
             second: 0.0f32,
         };
     }
-    place.rated_pair(map, configs, symbols, ready, context, level)
+    place.rated_pair(book, context, level)
 }
 
 // The two states of count `r`, written behind those of the counts from `least` on.
@@ -132,21 +124,16 @@ fn fill_run(
         → RowIs book x (level ∷ []) next.now span least (2 * at) (2 * (from - least)) current.old (unpacked choices.old)
         → RowIs book x (level ∷ []) next.now span least (2 * at) (2 * (upto + 1 - least)) current.new (unpacked choices.new) }
 {
-    let mut r = from;
-    while r <= upto {
+    for r in from..=upto {
         row_state(
             level, distortion, token, next, span, current, choices, at, least, r,
         );
-        r += 1;
     }
 }
 
 // The states of the counts from `least` to `most` of a position with one candidate.
 fn fill_sole(
-    map: &[u8],
-    configs: &[u8],
-    symbols: &[f32],
-    ready: &[f32],
+    book: &PriceBook,
     place: Place,
     levels: &[i32; 5],
     next: &[f32],
@@ -157,18 +144,19 @@ fn fill_sole(
     least: usize,
     most: usize,
 )
-    requires workable { Workable (book_in map.now configs.now symbols.now ready.now) place (in_array 1 levels.now) next.now span most }
+    requires workable { Workable (contents book.now) place (in_array 1 levels.now) next.now span most }
     requires least_le_most { (least ≤ most) × ((2 * (most - least) + 1 < length current.old) × (2 * at + 2 * (most - least) + 1 < length (unpacked choices.old))) }
     ensures current_len_unchanged { length current.new ≡ length current.old }
     ensures elsewhere { Elsewhere (2 * at) (2 * (most + 1 - least)) (unpacked choices.old) (unpacked choices.new) }
-    ensures row_is { RowIs (book_in map.now configs.now symbols.now ready.now) place (listed (in_array 1 levels.now)) next.now span least (2 * at) (2 * (most + 1 - least)) current.new (unpacked choices.new) }
+    ensures row_is { RowIs (contents book.now) place (listed (in_array 1 levels.now)) next.now span least (2 * at) (2 * (most + 1 - least)) current.new (unpacked choices.new) }
 {
     let level = levels[0];
     let distortion = place.distortion(level);
+    // By runs of counts, not count by count.
     let mut r = least;
     while r <= most {
         let context = place.context(r);
-        let token = token_of(map, configs, symbols, ready, place, context, level);
+        let token = token_of(book, place, context, level);
         let end = row::run_end(place, r, most);
         fill_run(
             level, distortion, token, next, span, current, choices, at, least, r, end,
@@ -179,10 +167,7 @@ fn fill_sole(
 
 // The states of the counts from `least` to `most`: their costs from the front of `current`, their choices from byte `at` on.
 pub fn fill_row(
-    map: &[u8],
-    configs: &[u8],
-    symbols: &[f32],
-    ready: &[f32],
+    book: &PriceBook,
     place: Place,
     levels: &[i32; 5],
     count: usize,
@@ -194,21 +179,19 @@ pub fn fill_row(
     least: usize,
     most: usize,
 )
-    requires workable { Workable (book_in map.now configs.now symbols.now ready.now) place (in_array count levels.now) next.now span most }
+    requires workable { Workable (contents book.now) place (in_array count levels.now) next.now span most }
     requires least_le_most { (least ≤ most) × ((2 * (most - least) + 1 < length current.old) × (2 * at + 2 * (most - least) + 1 < length (unpacked choices.old))) }
     ensures current_len_unchanged { length current.new ≡ length current.old }
     ensures elsewhere { Elsewhere (2 * at) (2 * (most + 1 - least)) (unpacked choices.old) (unpacked choices.new) }
-    ensures row_is { RowIs (book_in map.now configs.now symbols.now ready.now) place (listed (in_array count levels.now)) next.now span least (2 * at) (2 * (most + 1 - least)) current.new (unpacked choices.new) }
+    ensures row_is { RowIs (contents book.now) place (listed (in_array count levels.now)) next.now span least (2 * at) (2 * (most + 1 - least)) current.new (unpacked choices.new) }
 {
     if count == 1 {
         fill_sole(
-            map, configs, symbols, ready, place, levels, next, span, current, choices, at, least,
-            most,
+            book, place, levels, next, span, current, choices, at, least, most,
         );
         return;
     }
     row::fill_row(
-        map, configs, symbols, ready, place, levels, count, next, span, current, choices, at,
-        least, most,
+        book, place, levels, count, next, span, current, choices, at, least, most,
     );
 }

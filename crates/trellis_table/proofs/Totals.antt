@@ -1,29 +1,28 @@
 -- The last step: the least cost over the counts. Assumes nothing.
-use mathlib.Core.Path.{◌≡◌, refl, sym, ap, ◌∙◌, subst, subst⁻¹}
+use mathlib.Core.Path.{◌≡◌, refl, ap, ◌∙◌, subst⁻¹}
 use mathlib.Core.Bool.{Bool, true, false, cond}
-use mathlib.Core.List.{List, [], ◌∷◌}
-use Prim.Native.Nat.{ℕ, zero, suc, ◌+◌, ◌-◌, ◌*◌, ◌/◌, ◌≤◌, ◌<◌, max, min}
+use mathlib.Core.List.{List}
+use Prim.Native.Nat.{ℕ, suc, ◌+◌, ◌-◌, ◌*◌, ◌/◌, ◌≤◌, ◌<◌, min}
 use native.Mathlib.Omega.{arith}
-use native.Mathlib.Nat.{le_trans, min-le_right}
+use native.Mathlib.Nat.{le_trans}
 use native.Mathlib.Numerals.{add-one}
-use lib.Dec.{T, leb}
-use lib.ListN.{length, get_or}
+use lib.Dec.{leb}
+use lib.ListN.{get_or}
 use lib.Ieee.{Float, nan, inf, lt, add, binary32}
 use Rattle.block.specs.Block.{Block, covered, input_remaining}
 use Rattle.block.specs.Band.{positions_from, tail_of, past_window, input_after, fewest_count, most_count, problem_of}
 use Rattle.block.specs.Cost.{first_prev, count_cost}
-use Rattle.least_cost.specs.Position.{Position, Tail}
 use Rattle.least_cost.specs.Search.{Problem, best, least, holder, up_from, total, least_total, least_count}
 use Rattle.prices.specs.Book.{Book}
 use Rattle.problem.proofs.Problem.{past-most}
 use Rattle.problem.specs.Tokens.{past_length}
 use Rattle.steps.specs.declared.reading.Plan.{Plan}
 use Rattle.weights.specs.declared.Window.{Window}
-use Rattle.search_checks.specs.Checked.{positions}
 use Rattle.search_checks.proofs.Checked.{bit-few, window-some, first_is}
-use Rattle.trellis_table.specs.Rows.{Rowable, RowAt, CountsAt, considered}
+use Rattle.trellis_table.specs.Rows.{Rowable, RowAt, CountsAt}
 use Rattle.trellis_table.specs.Rows as Rows
-use Rattle.trellis_table.specs.declared.count.Best.{Best}
+use Rattle.steps.specs.Best.{considered}
+use Rattle.steps.specs.declared.best.Best.{Best}
 use Rattle.trellis_table.specs.declared.position.Counts.{Counts}
 use Rattle.trellis_table.proofs.Steps.{room-left, past_after, least-most}
 
@@ -51,14 +50,14 @@ module _ {hw : ℕ} {book : Book} {b : Block} {p : Plan} (K : Rowable hw book b 
       cc
 
 -- ---- the counts one after the other: k of them are left from n on
-pub record Sofar (w : Problem) (n k : ℕ) (x : Best) : Type 0 where
+pub record Sofar (w : Problem) (n k : ℕ) (x : Best ℕ) : Type 0 where
   pub cost-left : least (total w) x.cost (up_from n k) ≡ least_total w
-  pub count_left : holder (total w) x.cost x.count (up_from n k) ≡ least_count w
+  pub count_left : holder (total w) x.cost x.choice (up_from n k) ≡ least_count w
 
 most-same : (hw s a w : ℕ) → 0 < w → min (a + hw) (s + (w - 1 - 0)) + 1 ≡ min (s + w) (a + hw + 1)
 most-same hw s a w h = omega arith
 
-pub sofar-start : (hw : ℕ) (v : Window) (book : Book) (b : Block) (c : Counts) → CountsAt hw v b 0 c → 0 < v.length → (x : Float) → x ≡ inf false → Sofar (problem_of hw v book b) c.least (c.most + 1 - c.least) (record { cost = x; count = c.least })
+pub sofar-start : (hw : ℕ) (v : Window) (book : Book) (b : Block) (c : Counts) → CountsAt hw v b 0 c → 0 < v.length → (x : Float) → x ≡ inf false → Sofar (problem_of hw v book b) c.least (c.most + 1 - c.least) (record { cost = x; choice = c.least })
 unfolding least_total least_count problem_of fewest_count most_count input_after Rows.least_count
 sofar-start hw v book b c w some x e =
     let same : covered b + 0 + 1 ≡ covered b + 1 = omega arith in
@@ -68,18 +67,18 @@ sofar-start hw v book b c w some x e =
     let wide : c.most + 1 - c.least ≡ suc c.most - c.least = ap (λ (k : ℕ). k - c.least) (add-one c.most) in
     record { cost-left = cc; count_left = cc }
 
-pub sofar-more : {w : Problem} {n k : ℕ} {x y : Best} {cost : Float} → 0 < k → cost ≡ total w n → y ≡ considered x cost n → Sofar w n k x → Sofar w (n + 1) (k - 1) y
+pub sofar-more : {w : Problem} {n k : ℕ} {x y : Best ℕ} {cost : Float} → 0 < k → cost ≡ total w n → y ≡ considered x cost n → Sofar w n k x → Sofar w (n + 1) (k - 1) y
 unfolding up_from least holder considered
 sofar-more {w} {n} {k} {x} {y} {cost} some e f s =
     let one : k ≡ suc (k - 1) = omega arith in
     rw (f, e, add-one) (go (lt (total w n) x.cost) (rw one at s.cost-left) (rw one at s.count_left))
   where
     go : (t : Bool) → least (total w) (cond t (total w n) x.cost) (up_from (suc n) (k - 1)) ≡ least_total w
-        → holder (total w) (cond t (total w n) x.cost) (cond t n x.count) (up_from (suc n) (k - 1)) ≡ least_count w
-        → Sofar w (suc n) (k - 1) (cond t (record { cost = total w n; count = n }) x)
+        → holder (total w) (cond t (total w n) x.cost) (cond t n x.choice) (up_from (suc n) (k - 1)) ≡ least_count w
+        → Sofar w (suc n) (k - 1) (cond {A = Best ℕ} t (record { cost = total w n; choice = n }) x)
     go true p q = record { cost-left = p; count_left = q }
     go false p q = record { cost-left = p; count_left = q }
 
-pub sofar-end : {w : Problem} {n k : ℕ} {x : Best} → k ≡ 0 → Sofar w n k x → (x.cost ≡ least_total w) × (x.count ≡ least_count w)
+pub sofar-end : {w : Problem} {n k : ℕ} {x : Best ℕ} → k ≡ 0 → Sofar w n k x → (x.cost ≡ least_total w) × (x.choice ≡ least_count w)
 unfolding up_from least holder
 sofar-end e s = (rw e at s.cost-left, rw e at s.count_left)

@@ -4,7 +4,7 @@ use mathlib.Core.Bool.{Bool, true, false, cond}
 use mathlib.Core.List.{List, []}
 use Prim.Native.Nat.{ℕ, zero, suc, ◌+◌, ◌-◌, ◌*◌, ◌≤◌, ◌<◌}
 use native.Mathlib.Omega.{arith}
-use native.Mathlib.Nat.{le_trans, le_of_eq, mul-suc, mul-le-mul_left, le_refl, not-suc-le-zero, le_of_suc-le-suc}
+use native.Mathlib.Nat.{le_trans, le_of_eq, mul-suc, mul-le-mul_left, not-suc-le-zero, le_of_suc-le-suc}
 use lib.IntN.{ℤ, pos}
 use lib.Dec.{T, eqb}
 use lib.ListN.{length, get_or}
@@ -19,7 +19,7 @@ use Rattle.least_cost.specs.Position.{Position, Tail}
 use Rattle.least_cost.specs.Search.{best}
 use Rattle.prices.specs.Book.{Book}
 use Rattle.trellis_row.specs.Row.{Elsewhere}
-use Rattle.trellis_row.specs.Table.{RowFor, ChoicesFor}
+use Rattle.trellis_row.specs.Table.{RowFor}
 use Rattle.search_checks.specs.Checked.{positions}
 use Rattle.steps.specs.declared.reading.Plan.{Plan}
 use Rattle.weights.specs.declared.Window.{Window}

@@ -1,7 +1,6 @@
 -- The rows of the trellis: which counts the row of each position holds, and what the rows and choices stand for, for a band of half-width w and a window v.
 use Rattle.std.specs.Prelude.{ℕ, suc, ◌+◌, ◌-◌, ◌*◌, ◌≤◌, ◌<◌, max, min, ◌≡◌, Bool, cond, not, List, ◌∷◌, length, get_or, T, ltb, ℤ, Float}
 use Rattle.std.specs.Float.{nan}
-use Rattle.std.specs.Float.Ieee.{lt}
 use Rattle.std.specs.Float.Ieee.Scale.{finite}
 use Rattle.block.specs.Block.{Block, covered, input_remaining}
 use Rattle.block.specs.Band.{position_at, problem_of, tail_of, past_window}
@@ -15,7 +14,6 @@ use Rattle.steps.specs.declared.reading.Plan.{Plan}
 use Rattle.trellis_row.specs.Row.{Elsewhere}
 use Rattle.trellis_row.specs.Table.{RowFor, ChoicesFor}
 use Rattle.weights.specs.declared.Window.{Window}
-use Rattle.trellis_table.specs.declared.count.Best.{Best}
 use Rattle.trellis_table.specs.declared.position.Counts.{Counts}
 use Rattle.trellis_table.specs.declared.position.Step.{Step}
 
@@ -116,7 +114,3 @@ pub record NextFor (w : ℕ) (book : Book) (scan : List ℕ) (source inverse : L
   pub past_is : past ≡ past_window p.window searched.block
   pub after_is : after ≡ input_remaining searched.block (covered searched.block + suc i)
   pub row_is : RowAt w p.window book searched.block (suc i) next c
-
--- a cost that is below the least so far takes its place
-unfoldable pub considered : Best → Float → ℕ → Best
-considered best x n = cond (lt x best.cost) (record { cost = x; count = n }) best

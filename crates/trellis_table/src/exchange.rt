@@ -1,11 +1,13 @@
 // The positions from the last to the first, over two rows that take turns.
 ghost use Rattle.std.specs.Prelude.{◌≡◌, true, cond, ◌+◌, ◌*◌, ◌≤◌, length};
 ghost use Rattle.block.specs.Checks.{choice_bytes, states};
-ghost use Rattle.prices.specs.Book.{book_in};
+ghost use Rattle.prices.specs.Contents.{contents};
 ghost use Rattle.trellis_table.specs.Rows.{TailFor, Rowed, Kept};
 
 use crate::position;
 use crate::position::{Counts, Step};
+use block::BlockData;
+use prices::book::PriceBook;
 use steps::reading::Plan;
 
 // Where the costs of the first position stand, and for which counts.
@@ -24,13 +26,8 @@ pub fn live_row<'a>(first: &'a [f32], second: &'a [f32], in_first: bool) -> &'a 
 
 pub fn take_positions(
     factored: bool,
-    map: &[u8],
-    configs: &[u8],
-    symbols: &[f32],
-    ready: &[f32],
-    scan: &[u32],
-    source: &[f32],
-    inv_qm: &[f32],
+    book: &PriceBook,
+    block: &BlockData,
     levels: &[i32],
     plan: Plan,
     past: usize,
@@ -40,10 +37,10 @@ pub fn take_positions(
     width: usize,
 ) -> Last
     requires width_bound { width ≤ 12 }
-    requires tail_for { TailFor (book_in map.now configs.now symbols.now ready.now) scan.now source.now inv_qm.now levels.now plan past first.old }
+    requires tail_for { TailFor (contents book.now) block.now.scan.now block.now.source.now block.now.inv_qm.now levels.now plan past first.old }
     requires width_in_bounds { (states width ≤ length first.old) × ((states width ≤ length second.old) × (choice_bytes width * plan.window.length ≤ length choices.old)) }
-    ensures rowed { (t : TailFor (book_in map.now configs.now symbols.now ready.now) scan.now source.now inv_qm.now levels.now plan past first.old)
-        → Rowed width plan.window (book_in map.now configs.now symbols.now ready.now) t.searched.block 0 first.new second.new choices.new result.step result.in_first }
+    ensures rowed { (t : TailFor (contents book.now) block.now.scan.now block.now.source.now block.now.inv_qm.now levels.now plan past first.old)
+        → Rowed width plan.window (contents book.now) t.searched.block 0 first.new second.new choices.new result.step result.in_first }
     ensures kept { Kept first.old first.new second.old second.new choices.old choices.new }
 {
     let window = plan.window;
@@ -55,21 +52,19 @@ pub fn take_positions(
         after: past,
     };
     let mut in_first = true;
-    let mut i = window.length;
-    while 0 < i {
-        i -= 1;
+    for i in (0..window.length).rev() {
         let counts = step.counts;
         let after = step.after;
         if in_first {
             step = position::take_position(
-                factored, map, configs, symbols, ready, scan, source, inv_qm, levels, plan, past,
-                i, after, first, counts, second, choices, width,
+                factored, book, block, levels, plan, past, i, after, first, counts, second,
+                choices, width,
             );
             in_first = false;
         } else {
             step = position::take_position(
-                factored, map, configs, symbols, ready, scan, source, inv_qm, levels, plan, past,
-                i, after, second, counts, first, choices, width,
+                factored, book, block, levels, plan, past, i, after, second, counts, first,
+                choices, width,
             );
             in_first = true;
         }

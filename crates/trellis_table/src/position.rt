@@ -3,11 +3,13 @@ ghost use Rattle.std.specs.Prelude.{◌≡◌, cond, eqb, ◌+◌, ◌-◌, ◌*
 ghost use Rattle.block.specs.Checks.{choice_bytes, states};
 ghost use Rattle.candidates.specs.Candidates.{in_array};
 ghost use Rattle.half_bytes.specs.Packed.{unpacked};
-ghost use Rattle.prices.specs.Book.{book_in};
+ghost use Rattle.prices.specs.Contents.{contents};
 ghost use Rattle.trellis_choice.specs.Locals.{listed};
 ghost use Rattle.trellis_row.specs.Row.{RowIs, Elsewhere, Workable};
 ghost use Rattle.trellis_table.specs.Rows.{least_count, rise_at, NextFor, Stepped};
 
+use block::BlockData;
+use prices::book::PriceBook;
 use steps::Place;
 use steps::reading::Plan;
 use trellis_row::row::Span;
@@ -26,28 +28,10 @@ pub struct Step {
     pub after: usize,
 }
 
-fn larger(a: usize, b: usize) -> usize
-    ensures { result ≡ max a b }
-{
-    if a < b { b } else { a }
-}
-
-fn smaller(a: usize, b: usize) -> usize
-    ensures { result ≡ min a b }
-{
-    if a < b { a } else { b }
-}
-
-fn less(a: usize, width: usize) -> usize
-    ensures { result ≡ a - width }
-{
-    if a < width { 0 } else { a - width }
-}
-
 pub fn least_count(past: usize, after: usize, width: usize) -> usize
     ensures { result ≡ least_count width past after }
 {
-    larger(past, less(after, width))
+    past.max(after.saturating_sub(width))
 }
 
 // By how much a count may rise at window position i: not at all where the level is 0 and can't be restored.
@@ -75,7 +59,7 @@ fn last_count(
     ensures { result ≡ cond (eqb i 0) (min (after + width) (past + left) + 1) (upto + rise) }
 {
     if i == 0 {
-        return smaller(after + width, past + left) + 1;
+        return (after + width).min(past + left) + 1;
     }
     upto + rise
 }
@@ -87,18 +71,15 @@ fn span_of(after: usize, next: Counts, width: usize) -> Span
 {
     Span {
         base: next.least,
-        from: larger(less(after, width), next.least),
-        upto: smaller(after + width, next.most),
+        from: after.saturating_sub(width).max(next.least),
+        upto: (after + width).min(next.most),
     }
 }
 
 // A row of a position: factored, or edge by edge.
 fn fill_row(
     factored: bool,
-    map: &[u8],
-    configs: &[u8],
-    symbols: &[f32],
-    ready: &[f32],
+    book: &PriceBook,
     place: Place,
     levels: &[i32; 5],
     count: usize,
@@ -110,34 +91,27 @@ fn fill_row(
     least: usize,
     most: usize,
 )
-    requires workable { Workable (book_in map.now configs.now symbols.now ready.now) place (in_array count levels.now) next.now span most }
+    requires workable { Workable (contents book.now) place (in_array count levels.now) next.now span most }
     requires least_le_most { (least ≤ most) × ((2 * (most - least) + 1 < length current.old) × (2 * at + 2 * (most - least) + 1 < length (unpacked choices.old))) }
     ensures current_len_unchanged { length current.new ≡ length current.old }
     ensures elsewhere { Elsewhere (2 * at) (2 * (most + 1 - least)) (unpacked choices.old) (unpacked choices.new) }
-    ensures row_is { RowIs (book_in map.now configs.now symbols.now ready.now) place (listed (in_array count levels.now)) next.now span least (2 * at) (2 * (most + 1 - least)) current.new (unpacked choices.new) }
+    ensures row_is { RowIs (contents book.now) place (listed (in_array count levels.now)) next.now span least (2 * at) (2 * (most + 1 - least)) current.new (unpacked choices.new) }
 {
     if factored {
         trellis_sole::fill_row(
-            map, configs, symbols, ready, place, levels, count, next, span, current, choices, at,
-            least, most,
+            book, place, levels, count, next, span, current, choices, at, least, most,
         );
         return;
     }
     trellis_edges::fill_row(
-        map, configs, symbols, ready, place, levels, count, next, span, current, choices, at,
-        least, most,
+        book, place, levels, count, next, span, current, choices, at, least, most,
     );
 }
 
 pub fn take_position(
     factored: bool,
-    map: &[u8],
-    configs: &[u8],
-    symbols: &[f32],
-    ready: &[f32],
-    scan: &[u32],
-    source: &[f32],
-    inv_qm: &[f32],
+    book: &PriceBook,
+    block: &BlockData,
     levels: &[i32],
     plan: Plan,
     past: usize,
@@ -150,13 +124,13 @@ pub fn take_position(
     width: usize,
 ) -> Step
     requires width_bound { (width ≤ 12) × (i < plan.window.length) }
-    requires next_for { NextFor width (book_in map.now configs.now symbols.now ready.now) scan.now source.now inv_qm.now levels.now plan past i after next.now next_counts }
+    requires next_for { NextFor width (contents book.now) block.now.scan.now block.now.source.now block.now.inv_qm.now levels.now plan past i after next.now next_counts }
     requires width_in_bounds { (states width ≤ length next.now) × ((states width ≤ length current.old) × (choice_bytes width * i + choice_bytes width ≤ length choices.old)) }
-    ensures { (t : NextFor width (book_in map.now configs.now symbols.now ready.now) scan.now source.now inv_qm.now levels.now plan past i after next.now next_counts)
-        → Stepped width plan.window (book_in map.now configs.now symbols.now ready.now) t.searched.block i current.old current.new choices.old choices.new result }
+    ensures { (t : NextFor width (contents book.now) block.now.scan.now block.now.source.now block.now.inv_qm.now levels.now plan past i after next.now next_counts)
+        → Stepped width plan.window (contents book.now) t.searched.block i current.old current.new choices.old choices.new result }
 {
     let mut offered = [0i32; 5];
-    let offer = plan.offer(scan, source, inv_qm, levels, i, &mut offered);
+    let offer = plan.offer(block, levels, i, &mut offered);
     let place = plan.place(i, offer.ideal, offer.level);
     let window = plan.window;
     let span = span_of(after, next_counts, width);
@@ -168,10 +142,7 @@ pub fn take_position(
     };
     fill_row(
         factored,
-        map,
-        configs,
-        symbols,
-        ready,
+        book,
         place,
         &offered,
         offer.count,

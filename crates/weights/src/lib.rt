@@ -22,68 +22,40 @@ pub struct Settings {
     pub distance: f32,
 }
 
-// What a caller sets: what a search weighs by, and the half-width of the trellis's band.
-#[derive(Clone, Copy)]
-pub struct SearchSettings {
-    pub weighing: Settings,
-    pub half_width: u32,
-}
-
 // The half-width to begin with: document 01's, and the Rust's.
 pub const HALF_WIDTH: u32 = 6;
 
 // A cap that leaves document 01's window whole.
 pub const WINDOW_CAP: usize = 1024;
 
-// x held within lo to hi; a NaN stays one.
-fn clamped(x: f32, lo: f32, hi: f32) -> f32
-    ensures { result ≡ clamp x lo hi }
-{
-    if x < lo {
-        return lo;
-    }
-    if x > hi { hi } else { x }
-}
-
 pub fn rdoq_lambda(rd: f32, tuning: f32, ratio: f32) -> f32
     ensures { result ≡ lambda_of rd tuning ratio }
 {
-    rd * 0.25 * tuning * clamped(ratio, 0.5, 2.0)
+    rd * 0.25 * tuning * ratio.clamp(0.5, 2.0)
 }
 
 // The multiplier of chroma distortion at a distance.
 pub fn chroma_rdoq_weight(distance: f32) -> f32
     ensures { result ≡ chroma_weight distance }
 {
-    let t = clamped((distance - 2.25) / (4.0 - 2.25), 0.0, 1.0);
+    let t = ((distance - 2.25) / (4.0 - 2.25)).clamp(0.0, 1.0);
     2.0 + t * (1.0 - 2.0)
 }
 
 // The weight of a position in a window.
 pub fn rdoq_distortion_weight(window_index: usize, window_len: usize, distance: f32) -> f32
-    requires fact_1 { window_index ≤ window_len }
-    requires fact_2 { window_len ≤ 1024 }
+    requires in_window { window_index ≤ window_len }
+    requires window_bound { window_len ≤ 1024 }
     ensures { result ≡ distortion_weight window_index window_len distance }
 {
-    let len = larger(window_len, 1);
+    let len = window_len.max(1);
     let behind = 1.0 - window_index as f32 / len as f32;
-    let strength = clamped(distance - 2.0, 0.0, 1.0);
+    let strength = (distance - 2.0).clamp(0.0, 1.0);
     1.0 + strength * (behind * behind)
 }
 
-fn larger(a: usize, b: usize) -> usize
-    ensures { result ≡ max a b }
-{
-    if a < b { b } else { a }
-}
-
-fn smaller(a: usize, b: usize) -> usize
-    ensures { result ≡ min a b }
-{
-    if a < b { a } else { b }
-}
-
 // The lengths for a number of covered blocks.
+#[tactic(auto, unfolding(crate::specs::Window::window_of))]
 pub fn rdoq_window_len(covered_blocks: usize) -> Window
     requires { covered_blocks ≤ 1024 }
     ensures { result ≡ window_of covered_blocks }
@@ -95,21 +67,22 @@ pub fn rdoq_window_len(covered_blocks: usize) -> Window
         };
     }
     Window {
-        length: smaller(smaller(64 * covered_blocks, 1024), 63 * covered_blocks),
-        restoring: smaller(24 * covered_blocks, 256),
+        length: (64 * covered_blocks).min(1024).min(63 * covered_blocks),
+        restoring: (24 * covered_blocks).min(256),
     }
 }
 
 // The lengths under a cap on the positions.
+#[tactic(auto, unfolding(crate::specs::Window::window_for, crate::specs::Window::window_of))]
 pub fn window_under(cap: usize, covered_blocks: usize) -> Window
     requires { covered_blocks ≤ 1024 }
     ensures { result ≡ window_for cap covered_blocks }
 {
     let whole = rdoq_window_len(covered_blocks);
-    let length = smaller(cap, whole.length);
+    let length = cap.min(whole.length);
     Window {
         length,
-        restoring: smaller(whole.restoring, length),
+        restoring: whole.restoring.min(length),
     }
 }
 
@@ -118,13 +91,13 @@ pub fn base_len(covered_blocks: usize) -> usize
     requires { covered_blocks ≤ 1024 }
     ensures { result ≡ base_len covered_blocks }
 {
-    smaller(smaller(24 * covered_blocks, 64), 63 * covered_blocks)
+    (24 * covered_blocks).min(64).min(63 * covered_blocks)
 }
 
 fn between(lo: f32, hi: f32, x: f32) -> bool
     ensures { result ≡ within lo hi x }
 {
-    if lo <= x { x <= hi } else { false }
+    lo <= x && x <= hi
 }
 
 // A distance from 0 to 25.
@@ -139,16 +112,10 @@ impl Settings {
     pub fn valid(self) -> bool
         ensures { result ≡ valid_settings self }
     {
-        if !between(0.00000095367431640625, 1048576.0, self.lambda) {
-            return false;
-        }
-        if !between(0.0009765625, 1024.0, self.penalty) {
-            return false;
-        }
-        if !between(0.0009765625, 1024.0, self.channel_weight) {
-            return false;
-        }
-        is_distance(self.distance)
+        between(0.00000095367431640625, 1048576.0, self.lambda)
+            && between(0.0009765625, 1024.0, self.penalty)
+            && between(0.0009765625, 1024.0, self.channel_weight)
+            && is_distance(self.distance)
     }
 
     // The part of a weight that all window positions share.
@@ -174,5 +141,5 @@ pub fn position_weight(scale: f32, window_index: usize, base: usize, distance: f
     requires { base ≤ 1024 }
     ensures { result ≡ scaled_weight scale window_index base distance }
 {
-    scale * rdoq_distortion_weight(smaller(window_index, base), base, distance)
+    scale * rdoq_distortion_weight(window_index.min(base), base, distance)
 }

@@ -1,11 +1,7 @@
 use mathlib.Core.Path.{◌≡◌}
 use mathlib.Core.Bool.{false}
-use Prim.Native.Nat.{◌≤◌, ◌-◌}
 use Rattle.ac_context.specs.Contexts.{is_power_below}
 use Rattle.ac_context.proofs.log2_covered.Given as given
 
 abbrev pub invariant-loop-log2 : given.invariant-loop-log2
-invariant-loop-log2 l = (l.log2 ≤ 11) × (is_power_below l.log2 l.covered_blocks ≡ false)
-
-abbrev pub decreases-loop-log2 : given.decreases-loop-log2
-decreases-loop-log2 l = 11 - l.log2
+invariant-loop-log2 l = is_power_below l.log2 l.covered_blocks ≡ false

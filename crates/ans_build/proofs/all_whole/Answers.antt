@@ -1,38 +1,31 @@
-use Prim.Native.Nat.{◌-◌}
-use mathlib.Core.Path.{refl, sym}
-use native.Mathlib.Omega.{arith}
-use lib.ListN.{get_or}
-use lib.Dec.{leb}
-use native.Mathlib.Nat.{le_antisymm}
+use Rattle.std.proofs.Common.{◌≤◌, ◌≡◌, ℕ, Bool, true, false, eqb, leb, ltb, get_or, length, refl, sym, arith}
+use mir.Val.{bool_byte}
+use borrow.Author.Tests.{le-leb, lt-leb, ltb-true, ltb-false}
 use Rattle.prices.specs.Checks.{each}
 use Rattle.prices.proofs.Each.{each-count}
 use Rattle.ans_build.specs.Ans.{all_whole}
-use borrow.Author.Rules.{rules}
 use Rattle.ans_build.proofs.all_whole.Goals as goal
 
--- src/lib.rt:25:5
-pub loop-i-init : goal.loop-i-init
+-- the number that is added for a frequency
+added : (f : ℕ) → (bool_byte (ltb 4096 f) ≤ 1) × (leb f 4096 ≡ eqb (bool_byte (ltb 4096 f)) 0)
+added f = go (ltb 4096 f) refl
+  where
+    go : (above : Bool) → ltb 4096 f ≡ above → (bool_byte above ≤ 1) × (leb f 4096 ≡ eqb (bool_byte above) 0)
+    go true e = (omega arith, lt-leb _ _ (ltb-true 4096 f e))
+    go false e = (omega arith, le-leb _ _ (ltb-false 4096 f e))
+
+pub loop-frequency-init : goal.loop-frequency-init
 unfolding each
-loop-i-init c = (search rules, (search rules, refl))
+loop-frequency-init c = (omega arith, refl)
 
--- src/lib.rt:26:9
-pub overflow_add-bad : goal.overflow_add-bad
-overflow_add-bad c =
-    let a = c.above-bad.ensures.0 in
-    search rules
+pub loop-frequency-preserved : goal.loop-frequency-preserved
+loop-frequency-preserved c =
+    let loop = c.loop-frequency in
+    let more = added (get_or c.args.freqs.now loop.frequency-index 0) in
+    rw c.from-bad.ensures (omega (arith, more.0, loop.invariant.0), each-count (λ j. leb (get_or c.args.freqs.now j 0) 4096) loop.frequency-index loop.bad _ loop.invariant.1 more.1)
 
--- src/lib.rt:25:5
-pub loop-i-preserved : goal.loop-i-preserved
-loop-i-preserved c =
-    let a = c.above-bad.ensures in
-    let one = a.0 in
-    let at = c.before.before.before.before in
-    let freqs = at.args.freqs.now in
-    (search rules, (omega arith, each-count (λ j. leb (get_or freqs j 0) 4096) at.loop-i.i at.loop-i.bad c.above-bad.result at.loop-i.invariant.1.1 a.1))
-
--- src/lib.rt:19:1
 pub returns : goal.returns
 unfolding all_whole
 returns c =
-    let e = le_antisymm c.loop-i.invariant.0 c.loop-i-test.false in
-    sym (rw e at c.loop-i.invariant.1.1)
+    let all : c.loop-frequency.frequency-index ≡ length c.args.freqs.now = omega arith in
+    sym (rw all at c.loop-frequency.invariant.1)

@@ -1,62 +1,51 @@
-use mathlib.Core.Path.{◌≡◌, ◌∙◌, ap}
-use native.Mathlib.Omega.{arith}
-use lib.IntN.{pos}
-use lib.ListN.{get_or}
-use Prim.Native.Nat.{ℕ, ◌+◌, ◌-◌}
+use Rattle.std.proofs.Common.{◌≡◌, ◌+◌, ℕ, get_or, pos, ap, ◌∙◌, arith}
 use Rattle.beam_paths.proofs.Keeping.{extended_none, extended-next, extended-all}
 use Rattle.beam_row.proofs.Trying.{path-extended, path-here, path-count, path-tail, sum_fits, sum-coded, pair-below}
 use Rattle.steps.proofs.Listed.{usable-level}
-use borrow.Author.Rules.{rules}
 use Rattle.beam_row.proofs.extend.Goals as goal
 
 pub distortion-distortion-requires : goal.distortion-distortion-requires
-distortion-distortion-requires c =
-    let pre = c.requires in
-    usable-level pre.usable 0 (omega arith)
+distortion-distortion-requires c = usable-level c.requires.usable 0 (omega arith)
 
 pub loop-j-init : goal.loop-j-init
-loop-j-init c = (search rules, (c.none-kept.ensures.count_value, λ q xs S W. rw (extended_none q (get_or q.candidates 0 (pos 0))) (c.none-kept.ensures.kept_is q xs)))
+loop-j-init c = (c.none-kept.ensures.count_value, λ q xs S W. rw (extended_none q (get_or q.candidates 0 (pos 0))) (c.none-kept.ensures.kept_is q xs))
 
 pub overflow_add-paths : goal.overflow_add-paths
-overflow_add-paths c = let K = c.requires in record { fits = omega (arith, sum_fits K c.loop-j-test.true _ c.nonzero-nonzero.ensures) }
+overflow_add-paths c = record { fits = omega (arith, sum_fits c.requires c.loop-j-test.true _ c.nonzero-nonzero.ensures) }
 
 pub overflow_add-j : goal.overflow_add-j
-overflow_add-j c = let K = c.requires in record { fits = omega (arith, pair-below K c.loop-j-test.true _ c.nonzero-nonzero.ensures) }
+overflow_add-j c = record { fits = omega (arith, pair-below c.requires c.loop-j-test.true _ c.nonzero-nonzero.ensures) }
 
 pub offset_bounds-paths-j-in-loop-j : goal.offset_bounds-paths-j-in-loop-j
-offset_bounds-paths-j-in-loop-j c = let K = c.requires in record { fits = omega (arith, pair-below K c.loop-j-test.true _ c.nonzero-nonzero.ensures) }
+offset_bounds-paths-j-in-loop-j c = record { fits = omega (arith, pair-below c.requires c.loop-j-test.true _ c.nonzero-nonzero.ensures) }
 
 pub bounds-paths-j-in-loop-j : goal.bounds-paths-j-in-loop-j
 bounds-paths-j-in-loop-j c = pair-below c.requires c.loop-j-test.true _ c.nonzero-nonzero.ensures
 
 pub extend_path-requires : goal.extend_path-requires
-extend_path-requires c = let pre = c.requires in
-    let K = pre in
-    let here = c.loop-j-test.true in
-    let level = usable-level K.usable 0 (omega arith) in
-    record { ready_value = K.priced; t = (level, c.distortion-distortion.ensures); covered = (K.covers, K.offset); coefficient = λ h. sum-coded K here _ c.nonzero-nonzero.ensures h; j_bound = omega (arith, here, K.few) }
-
-pub push-kept-requires : goal.push-kept-requires
-push-kept-requires c = omega (arith, c.loop-j.invariant.1.0, c.loop-j-test.true, c.requires.few)
+extend_path-requires c =
+    let K = c.requires in
+    record {
+      t = (usable-level K.usable 0 (omega arith), c.distortion-distortion.ensures);
+      covered = (K.covers, K.offset);
+      coefficient = λ h. sum-coded K c.loop-j-test.true _ c.nonzero-nonzero.ensures h;
+      j_bound = omega (arith, c.loop-j-test.true, K.few);
+    }
 
 pub loop-j-preserved : goal.loop-j-preserved
 loop-j-preserved c =
-    let pre = c.requires in
     let inv = c.loop-j.invariant in
     let here = c.loop-j-test.true in
     let nonzero = c.nonzero-nonzero.ensures in
     let push = c.push-kept.ensures in (
-      search rules,
-      (
-        push.count_value ∙ ap (λ (n : ℕ). n + 1) inv.1.0,
-        λ q xs S W.
-            extended-next _ W here
-            (push.kept_is q xs _ _ (path-extended xs _ S pre.usable (path-here W here) (omega arith) nonzero (path-tail W here _ nonzero) (path-count W here _) (omega arith) c.extend_path.ensures) (inv.1.1 q xs S W)),
-      ),
+      push.count_value ∙ ap (λ (n : ℕ). n + 1) inv.0,
+      λ q xs S W.
+          extended-next _ W here
+          (push.kept_is q xs _ _ (path-extended xs _ S c.requires.usable (path-here W here) (omega arith) nonzero (path-tail W here _ nonzero) (path-count W here _) (omega arith) c.extend_path.ensures) (inv.1 q xs S W)),
     )
 
 pub returns : goal.returns
-returns c = let start = c.before.before.before.before.before.before.before.before.before.before.before.before in
+returns c =
     let inv = c.loop-j.invariant in
-    let last : c.loop-j.j ≡ start.args.paths.count = omega (arith, inv.0, c.loop-j-test.false) in
-    record { count_bound = omega (arith, inv.0, inv.1.0, start.requires.few); kept_is = λ q xs S W. extended-all _ W last (inv.1.1 q xs S W) }
+    let last : c.loop-j.j ≡ c.args.paths.count = omega arith in
+    record { count_bound = omega (arith, inv.0, c.requires.few); kept_is = λ q xs S W. extended-all _ W last (inv.1 q xs S W) }

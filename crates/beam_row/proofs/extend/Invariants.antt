@@ -4,20 +4,15 @@ use Rattle.beam_paths.specs.Held.{PathsFor}
 use Rattle.beam_paths.specs.Entries.{KeptIs}
 use Rattle.beam_row.specs.Held.{spot_of, Stands}
 use Rattle.least_cost.specs.Position.{Position}
-use Rattle.prices.specs.Book.{book_in}
+use Rattle.prices.specs.Contents.{contents}
 use mathlib.Core.List.{List}
 use mathlib.Core.Path.{◌≡◌}
 use lib.IntN.{pos}
 use lib.ListN.{get_or, take}
-use Prim.Native.Nat.{◌-◌, ◌≤◌}
 use Rattle.beam_row.proofs.extend.Given as given
 
 abbrev pub invariant-loop-j : given.invariant-loop-j
 invariant-loop-j l =
-    (l.j ≤ l.paths.count)
-    × ((l.kept.count ≡ l.j)
-    × ((q : Position) (xs : List Path) → Stands (book_in l.map l.configs l.symbols l.ready) (spot_of l.place 1 l.levels) q → PathsFor xs l.paths
-    → KeptIs q xs (extended q (get_or q.candidates 0 (pos 0)) (take l.j xs)) l.kept))
-
-abbrev pub decreases-loop-j : given.decreases-loop-j
-decreases-loop-j l = l.paths.count - l.j
+    (l.kept.count ≡ l.j)
+    × ((q : Position) (xs : List Path) → Stands (contents l.book) (spot_of l.place 1 l.levels) q → PathsFor xs l.paths
+    → KeptIs q xs (extended q (get_or q.candidates 0 (pos 0)) (take l.j xs)) l.kept)

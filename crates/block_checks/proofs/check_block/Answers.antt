@@ -1,24 +1,14 @@
-use mathlib.Core.Path.{sym, ◌∙◌}
+use Rattle.std.proofs.Common.{arith}
 use Rattle.block.specs.Block.{covered}
-use Rattle.block_checks.proofs.Laws.{form-first, width-refused, width-passed}
-use Rattle.laws.proofs.Tests.{failed, held}
-use mathlib.Core.Path.{ap}
-use mathlib.Core.Bool.{not}
+use Rattle.block.specs.Data.{block_with}
+use Rattle.refusals.proofs.Numbers.{number_positive}
+use Rattle.weights.specs.Window.{window_for}
+use Rattle.block_checks.proofs.Laws.{form-first}
 use Rattle.block_checks.proofs.check_block.Goals as goal
 
-pub returns-then-first-ne0 : goal.returns-then-first-ne0
-unfolding covered
-returns-then-first-ne0 c = form-first _ _ _ (c.check_form-first.ensures _) c.if-first-ne0.true
-
-pub returns-then-not-valid_width : goal.returns-then-not-valid_width
-unfolding covered
-returns-then-not-valid_width c = width-refused _ _ _ (sym (c.check_form-first.ensures _) ∙ c.if-first-ne0.false) (failed c.valid_width.ensures (ap not c.if-not-valid_width.true))
-
-pub check_content-requires : goal.check_content-requires
-check_content-requires c = sym (c.check_form-first.ensures _) ∙ c.if-first-ne0.false
-
-pub returns : goal.returns
-unfolding covered
-returns c =
-    c.check_content.ensures
-    ∙ sym (width-passed _ _ _ (sym (c.check_form-first.ensures _) ∙ c.if-first-ne0.false) (held c.valid_width.ensures (ap not c.if-not-valid_width.false)))
+pub returns-in_err-check_form : goal.returns-in_err-check_form
+returns-in_err-check_form c =
+    let b = block_with c.args.block.now c.args.levels.now in
+    let number = c.in_err-check_form.ensures in
+    let first = form-first c.args.width (window_for c.args.cap (covered b)) b number (λ none. omega (arith, number_positive c.in_err-check_form.field-0.0, number, none)) in
+    grind (arith, first)

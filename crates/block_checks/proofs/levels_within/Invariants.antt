@@ -1,4 +1,4 @@
-use Prim.Native.Nat.{◌+◌, ◌-◌, ◌≤◌}
+use Prim.Native.Nat.{◌+◌}
 use mathlib.Core.Path.{◌≡◌}
 use mathlib.Core.Bool.{true}
 use Rattle.candidates.specs.Candidates.{is_current}
@@ -7,7 +7,4 @@ use Rattle.scan.specs.Scan.{level_at}
 use Rattle.block_checks.proofs.levels_within.Given as given
 
 abbrev pub invariant-loop-i : given.invariant-loop-i
-invariant-loop-i l = (l.i ≤ l.n) × (each l.i (λ j. is_current (level_at l.scan l.levels (l.covered_blocks + j))) ≡ true)
-
-abbrev pub decreases-loop-i : given.decreases-loop-i
-decreases-loop-i l = l.n - l.i
+invariant-loop-i l = each l.i (λ j. is_current (level_at l.scan l.levels (l.covered_blocks + j))) ≡ true

@@ -11,6 +11,6 @@ pub returns-then-single : goal.returns-then-single
 unfolding depth_price of_bits
 returns-then-single c = simp (ne_eqb _ 0 c.if-depth-eq0.false, c.if-single.true)
 
-pub returns : goal.returns
+pub returns-else-single : goal.returns-else-single
 unfolding depth_price
-returns c = simp (ne_eqb _ 0 c.if-depth-eq0.false, c.if-single.false)
+returns-else-single c = rw c.from.ensures (simp (ne_eqb _ 0 c.if-depth-eq0.false, c.if-single.false))

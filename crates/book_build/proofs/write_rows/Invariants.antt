@@ -1,11 +1,7 @@
-use Prim.Native.Nat.{◌-◌, ◌*◌, ◌≤◌}
-use mathlib.Core.Path.{◌≡◌}
+use Rattle.std.proofs.Common.{◌≡◌, ◌*◌}
 use Rattle.book_build.specs.Paint.{paint}
 use Rattle.book_build.specs.Prefix.{prefix_of, prefix_entry}
 use Rattle.book_build.proofs.write_rows.Given as given
 
 abbrev pub invariant-loop-k : given.invariant-loop-k
-invariant-loop-k l = (l.k ≤ l.clusters) × (l.symbols ≡ paint (prefix_entry (prefix_of l.clusters l.depths l.singles l.strict)) 0 (128 * l.k) l.initial.symbols)
-
-abbrev pub decreases-loop-k : given.decreases-loop-k
-decreases-loop-k l = l.clusters - l.k
+invariant-loop-k l = l.symbols ≡ paint (prefix_entry (prefix_of l.clusters l.depths l.singles l.strict)) 0 (128 * l.k) l.initial.symbols

@@ -16,7 +16,7 @@ returns c =
     ap₂ ◌&&◌
     (ap₂ ◌&&◌
     (ap₂ ◌&&◌
-    (equal-bits _ a.a start.requires.t (read a.to) (passes _ good.1.1.0.1))
-    (equal-bits _ a.b start.requires.t_2 (read (a.to + 1)) (passes _ good.1.1.1.0.1)))
-    (equal-bits _ a.c start.requires.t_3 (read (a.to + 2)) (passes _ good.1.1.1.1.0.1)))
-    (equal-bits _ a.d start.requires.t_4 (read (a.to + 3)) (passes _ good.1.1.1.1.1.0.1))
+    (equal-bits _ a.a start.requires.a_above (read a.to) (passes _ good.1.1.0.1))
+    (equal-bits _ a.b start.requires.b_above (read (a.to + 1)) (passes _ good.1.1.1.0.1)))
+    (equal-bits _ a.c start.requires.c_above (read (a.to + 2)) (passes _ good.1.1.1.1.0.1)))
+    (equal-bits _ a.d start.requires.d_above (read (a.to + 3)) (passes _ good.1.1.1.1.1.0.1))

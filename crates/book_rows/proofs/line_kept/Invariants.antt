@@ -1,12 +1,7 @@
-use Prim.Native.Nat.{◌-◌, ◌≤◌}
-use mathlib.Core.Path.{◌≡◌}
-use lib.Dec.{eqb}
+use Rattle.std.proofs.Common.{◌≡◌, ◌≤◌, eqb}
 use Rattle.prices.specs.Checks.{each}
 use Rattle.book_rows.specs.Row.{line_kept}
 use Rattle.book_rows.proofs.line_kept.Given as given
 
 abbrev pub invariant-loop-i : given.invariant-loop-i
-invariant-loop-i l = (l.i ≤ l.count) × (l.bad ≤ l.i) × (each l.i (line_kept l.symbols l.ready l.from l.to l.extra) ≡ eqb l.bad 0)
-
-abbrev pub decreases-loop-i : given.decreases-loop-i
-decreases-loop-i l = l.count - l.i
+invariant-loop-i l = (l.bad ≤ l.i) × (each l.i (line_kept l.symbols l.ready l.from l.to l.extra) ≡ eqb l.bad 0)

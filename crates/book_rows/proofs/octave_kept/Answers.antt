@@ -36,20 +36,20 @@ run c j =
 
 -- where its symbols and its values begin
 symbols-at : (c : At-loop-i) → c.loop-i.i * c.power-period.result ≡ c.loop-i.i * 2 ^ (start c).args.l
-symbols-at c = ap (λ (p : ℕ). c.loop-i.i * p) c.loop-i.invariant.2
+symbols-at c = ap (λ (p : ℕ). c.loop-i.i * p) c.loop-i.invariant.1
 
 values-at : (c : At-loop-i) → c.loop-i.i * c.power-count.result ≡ c.loop-i.i * 2 ^ ((start c).args.l + (start c).args.bits)
-values-at c = ap (λ (p : ℕ). c.loop-i.i * p) c.loop-i.invariant.3
+values-at c = ap (λ (p : ℕ). c.loop-i.i * p) c.loop-i.invariant.2
 
 -- both are among those given
 symbols-in : (c : In-loop-i)
     → let a = (start c.before).args in c.loop-i.i * 2 ^ a.l + 2 ^ a.l ≤ 2 ^ (a.m + a.l)
-symbols-in c = run-within _ _ _ (lt_of_lt_of_le c.loop-i-test.true (le_of_eq c.loop-i.invariant.1))
+symbols-in c = run-within _ _ _ (lt_of_lt_of_le c.loop-i-test.true (le_of_eq c.loop-i.invariant.0))
 
 values-in : (c : In-loop-i)
     → let a = (start c.before).args in c.loop-i.i * 2 ^ (a.l + a.bits) + 2 ^ (a.l + a.bits) ≤ 2 ^ (a.m + a.l + a.bits)
 values-in c =
-    le_trans (run-within (start c.before).args.m _ _ (lt_of_lt_of_le c.loop-i-test.true (le_of_eq c.loop-i.invariant.1)))
+    le_trans (run-within (start c.before).args.m _ _ (lt_of_lt_of_le c.loop-i-test.true (le_of_eq c.loop-i.invariant.0)))
     (le_of_eq (ap (λ (k : ℕ). 2 ^ k) (omega arith)))
 
 told : (c : After-run_kept) → c.run_kept.result ≡ run c.before.before c.loop-i.i
@@ -60,13 +60,7 @@ told c =
 
 pub loop-i-init : goal.loop-i-init
 unfolding each
-loop-i-init c = (
-  omega arith,
-  c.power-runs.ensures,
-  c.power-period.ensures,
-  c.power-count.ensures,
-  refl,
-)
+loop-i-init c = (c.power-runs.ensures, c.power-period.ensures, c.power-count.ensures, refl)
 
 pub overflow_mul-i : goal.overflow_mul-i
 overflow_mul-i c = omega (arith, symbols-at c.before.before, symbols-in c.before, (start c.before.before).requires)
@@ -96,14 +90,14 @@ run_kept-requires c = let begin = start c.before.before in
 pub loop-i-preserved : goal.loop-i-preserved
 loop-i-preserved c =
     let inv = c.loop-i.invariant in
-    (omega arith, inv.1, inv.2, inv.3, each_more _ _ inv.4 (sym (told c.before.before) ∙ c.if-run_kept.true))
+    (inv.0, inv.1, inv.2, each_more _ _ inv.3 (sym (told c.before.before) ∙ c.if-not-run_kept.false))
 
-pub returns-else-run_kept : goal.returns-else-run_kept
+pub returns-then-not-run_kept : goal.returns-then-not-run_kept
 unfolding octave_kept
-returns-else-run_kept c =
+returns-then-not-run_kept c =
     let loop = c.loop-i in
-    sym (each-fails _ _ loop.i (lt_of_lt_of_le c.loop-i-test.true (le_of_eq loop.invariant.1)) (sym (told c.before.before) ∙ c.if-run_kept.false))
+    sym (each-fails _ _ loop.i (lt_of_lt_of_le c.loop-i-test.true (le_of_eq loop.invariant.0)) (sym (told c.before.before) ∙ c.if-not-run_kept.true))
 
 pub returns : goal.returns
 unfolding octave_kept
-returns c = sym (subst (λ (n : ℕ). each n (run c.before.before) ≡ true) (omega (arith, c.loop-i.invariant)) c.loop-i.invariant.4)
+returns c = sym (subst (λ (n : ℕ). each n (run c.before.before) ≡ true) (omega (arith, c.loop-i.invariant)) c.loop-i.invariant.3)

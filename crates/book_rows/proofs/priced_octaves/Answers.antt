@@ -6,6 +6,6 @@ pub returns-then-both-eq6 : goal.returns-then-both-eq6
 unfolding priced_octaves
 returns-then-both-eq6 c = simp (eq-eqb _ 6 c.if-both-eq6.true)
 
-pub returns : goal.returns
+pub returns-else-both-eq6 : goal.returns-else-both-eq6
 unfolding priced_octaves
-returns c = simp (ne_eqb _ 6 c.if-both-eq6.false)
+returns-else-both-eq6 c = simp (ne_eqb _ 6 c.if-both-eq6.false)

@@ -1,4 +1,4 @@
-use Prim.Native.Nat.{◌+◌, ◌-◌, ◌*◌, ◌^◌, ◌≤◌}
+use Prim.Native.Nat.{◌+◌, ◌*◌, ◌^◌, ◌≤◌}
 use mathlib.Core.Path.{◌≡◌}
 use mathlib.Core.Bool.{true}
 use lib.ListN.{get_or}
@@ -9,9 +9,5 @@ use Rattle.book_rows.proofs.row_kept.Given as given
 abbrev pub invariant-loop-n : given.invariant-loop-n
 invariant-loop-n l =
     (get_or l.configs (3 * l.cluster) 0 ≤ l.n)
-    × (l.n ≤ l.end)
     × (l.from ≡ 128 * l.cluster + base (get_or l.configs (3 * l.cluster) 0) l.m l.l l.n)
     × (each (2 ^ l.n) (kept_at l.configs l.symbols l.ready l.cluster) ≡ true)
-
-abbrev pub decreases-loop-n : given.decreases-loop-n
-decreases-loop-n l = l.end - l.n

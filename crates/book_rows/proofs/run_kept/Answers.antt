@@ -62,8 +62,8 @@ line_kept-requires c = let first = c.before.before.before.before.before in
     let same : 2 ^ (a.l + a.bits) ≡ 2 ^ a.l = ap (λ (k : ℕ). 2 ^ k) (omega arith) in
     record {
       count_bound = omega (arith, size);
-      count_in_bounds = omega (arith, size, first.requires);
-      count_in_bounds_2 = omega (arith, size, same, first.requires);
+      symbols_in_bounds = omega (arith, size, first.requires);
+      ready_in_bounds = omega (arith, size, same, first.requires);
       by_index = λ i h.
           subst⁻¹ (λ (n : ℕ). T (cost (add binary32 (at a.symbols.now (a.from + i)) (of_int binary32 (pos n))))) none
           (subst⁻¹ (λ (x : Float). T (cost (add binary32 (at a.symbols.now (a.from + i)) x))) zero-extra
@@ -109,7 +109,7 @@ pub turns_kept-requires : goal.turns_kept-requires
 turns_kept-requires c = let three = c.before.before in
     let one = three.before.before.before.before in
     let a = (start one).args in
-    record { fours_in_bounds = omega (arith, three.power-fours.ensures, power-fours (a.l + a.bits) (omega (arith, three.if-l-bits-lt2.false)), (start one).requires); t = above-first one; t_2 = above_at one a.l (small_power a.l three.if-l-lt2.true) }
+    record { fours_in_bounds = omega (arith, three.power-fours.ensures, power-fours (a.l + a.bits) (omega (arith, three.if-l-bits-lt2.false)), (start one).requires); a_above = above-first one; b_above = above_at one a.l (small_power a.l three.if-l-lt2.true) }
 
 pub returns-then-l-lt2 : goal.returns-then-l-lt2
 returns-then-l-lt2 c =

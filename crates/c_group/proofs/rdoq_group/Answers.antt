@@ -1,8 +1,13 @@
-use Rattle.c_group.proofs.Telling.{unknown, told-group}
+use Rattle.std.proofs.Common.{◌∙◌}
+use Rattle.c_group.proofs.Telling.{named, not-named, unknown, told-group}
 use Rattle.c_group.proofs.rdoq_group.Goals as goal
 
-pub returns-then-search-gt3 : goal.returns-then-search-gt3
-returns-then-search-gt3 c = unknown _ _ _ _ _ _ c.if-search-gt3.true
+pub returns-in-Err : goal.returns-in-Err
+returns-in-Err c =
+    let none = not-named _ c.in-Err.ensures in
+    rw (c.number.ensures ∙ none.1) (unknown _ _ _ _ _ _ none.0)
 
 pub returns : goal.returns
-returns c = told-group _ _ _ _ _ _ c.if-search-gt3.false (rw c.named.ensures at c.rdoq_group-answer.ensures) c.tell_group.ensures.0 c.tell_group.ensures.1
+returns c =
+    let found = named _ c.in-Ok.ensures in
+    told-group _ _ _ _ _ _ found.0 (rw found.1 at c.rdoq_group-answer.ensures) c.tell_group.ensures.0 c.tell_group.ensures.1

@@ -1,22 +1,21 @@
-use mathlib.Core.Path.{refl}
-use native.Mathlib.Omega.{arith}
-use borrow.Author.Tests.{le-leb, lt-leb}
+use mathlib.Core.Path.{refl, ◌∙◌}
 use Rattle.c_named.specs.Named.{named_reply}
-use Rattle.c_named.proofs.Telling.{told-block, told-keeps, told-demanded}
+use Rattle.c_named.proofs.Telling.{named, not-named, told-block, told-keeps, told-demanded}
 use Rattle.c_search.proofs.rdoq_block.Goals as goal
 
-pub returns-then-search-gt3 : goal.returns-then-search-gt3
+pub returns-in-Err : goal.returns-in-Err
 unfolding named_reply
-returns-then-search-gt3 c = record { reply = rw (lt-leb _ 3 c.if-search-gt3.true); demanded = λ few. absurd (omega (arith, c.if-search-gt3.true)); keeps = λ refused. refl }
+returns-in-Err c =
+    let none = not-named _ c.in-Err.ensures in
+    record { reply = rw (none.0, c.number.ensures ∙ none.1.0) refl; demanded = λ few. absurd (none.1.1 few); keeps = λ refused. refl }
 
 pub returns : goal.returns
 unfolding named_reply
 returns c =
-    let called = c.before.before.before.before.before.before.before.before.before.before.before in
-    let naming = called.before.before.before.before.before in
-    let searched = rw naming.named.ensures at called.rdoq_block-answer.ensures in
+    let found = named _ c.in-Ok.ensures in
+    let searched = rw found.1 at c.rdoq_block-answer.ensures in
     record {
-      reply = rw (le-leb _ 3 naming.if-search-gt3.false) (told-block _ _ searched.outcome (c.tell_answer.ensures.value, (c.tell_answer.ensures.cost_after, c.tell_answer.ensures.count_after)));
+      reply = rw found.0 (told-block _ _ searched.outcome (c.tell_answer.ensures.value, (c.tell_answer.ensures.cost_after, c.tell_answer.ensures.count_after)));
       demanded = λ few. told-demanded _ _ _ _ _ _ searched.outcome searched.demanded;
       keeps = told-keeps _ _ _ c.tell_answer.ensures.value searched.keeps;
     }

@@ -8,11 +8,11 @@ use Rattle.candidates.proofs.rdoq_candidates.Goals as goal
 pub list_candidates-count-requires : goal.list_candidates-count-requires
 list_candidates-count-requires c = let start = c.before in
     let q = start.args.current in
-    record { fact_1 = start.requires.fact_1; fact_2 = subst (λ (z : ℤ). T (is_current z)) (sym (in-back q (wider (current-size q start.requires.fact_2)))) start.requires.fact_2 }
+    record { is_ideal = start.requires.is_ideal; is_current = subst (λ (z : ℤ). T (is_current z)) (sym (in-back q (wider (current-size q start.requires.is_current)))) start.requires.is_current }
 
 pub returns : goal.returns
 returns c =
     let start = c.before.before in
     let q = start.args.current in
     c.list_candidates-count.ensures
-    ∙ ap (λ (z : ℤ). filled (filler z start.args.restore) (candidates_of start.args.ideal z start.args.restore)) (in-back q (wider (current-size q start.requires.fact_2)))
+    ∙ ap (λ (z : ℤ). filled (filler z start.args.restore) (candidates_of start.args.ideal z start.args.restore)) (in-back q (wider (current-size q start.requires.is_current)))

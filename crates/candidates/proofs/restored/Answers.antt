@@ -18,7 +18,7 @@ use Rattle.candidates.proofs.Lists.{chain, with-zero-room, offer-room}
 use Rattle.candidates.proofs.restored.Goals as goal
 
 pub round_half_away-r-requires : goal.round_half_away-r-requires
-round_half_away-r-requires c = c.requires.fact_1
+round_half_away-r-requires c = c.requires.is_ideal
 
 -- the rounding's size
 small : (x : Float) (r : ℤ) → nat_abs (nearest_of x) ≤ 32767 → r ≡ nearest_of x → nat_abs r ≤ 32767
@@ -27,7 +27,7 @@ small x r h e = subst (λ (z : ℤ). nat_abs z ≤ 32767) (sym e) h
 pub is_settled-requires : goal.is_settled-requires
 is_settled-requires c = let x = c.args.ideal in
     let r = c.round_half_away-r.result in
-    record { fact_1 = c.requires.fact_1; fact_2 = in-back r (wider (small x r (nearest_in x c.requires.fact_1) c.round_half_away-r.ensures)) ∙ c.round_half_away-r.ensures }
+    record { is_ideal = c.requires.is_ideal; is_rounding = in-back r (wider (small x r (nearest_in x c.requires.is_ideal) c.round_half_away-r.ensures)) ∙ c.round_half_away-r.ensures }
 
 -- the definition's list, by its test
 alone : (x : Float) (q : ℤ) → settled x ≡ true → restored_of x q ≡ q ∷ []
@@ -43,14 +43,14 @@ unfolding filled
 returns-then-is_settled c =
     let start = c.before.before.before.before in
     let q = start.args.current in
-    ap (λ (z : ℤ). record { levels = z ∷ z ∷ z ∷ z ∷ z ∷ []; count = 1 }) (in-back q (wider (current-size q start.requires.fact_2)))
+    ap (λ (z : ℤ). record { levels = z ∷ z ∷ z ∷ z ∷ z ∷ []; count = 1 }) (in-back q (wider (current-size q start.requires.is_current)))
     ∙ sym (ap (filled q) (alone start.args.ideal q (sym c.is_settled.ensures ∙ c.if-is_settled.true)))
 
 pub with_zero-first-requires : goal.with_zero-first-requires
 with_zero-first-requires c =
     let start = c.before.before.before.before in
     let q = start.args.current in
-    subst (λ (z : ℤ). T (is_current z)) (sym (in-back q (wider (current-size q start.requires.fact_2)))) start.requires.fact_2
+    subst (λ (z : ℤ). T (is_current z)) (sym (in-back q (wider (current-size q start.requires.is_current)))) start.requires.is_current
 
 first-room : (t : Candidates) (q : ℤ) → t ≡ with_zero q → t.count ≤ 2
 first-room t q e = subst (λ (x : Candidates). x.count ≤ 2) (sym e) (with-zero-room q)
@@ -66,7 +66,7 @@ overflow_sub-r c =
     let rounded = c.before.before.before.before.before.before.before in
     let x = rounded.args.ideal in
     let r = rounded.round_half_away-r.result in
-    minus-sfits r (small x r (nearest_in x rounded.requires.fact_1) rounded.round_half_away-r.ensures)
+    minus-sfits r (small x r (nearest_in x rounded.requires.is_ideal) rounded.round_half_away-r.ensures)
 
 pub offered-third-requires : goal.offered-third-requires
 offered-third-requires c =
@@ -79,7 +79,7 @@ overflow_add-r c =
     let rounded = c.before.before.before.before.before.before.before.before.before in
     let x = rounded.args.ideal in
     let r = rounded.round_half_away-r.result in
-    plus-sfits r (small x r (nearest_in x rounded.requires.fact_1) rounded.round_half_away-r.ensures)
+    plus-sfits r (small x r (nearest_in x rounded.requires.is_ideal) rounded.round_half_away-r.ensures)
 
 pub offered-requires : goal.offered-requires
 offered-requires c =
@@ -111,7 +111,7 @@ returns c =
     let q = rounded.args.current in
     let r = rounded.round_half_away-r.result in
     let e = rounded.round_half_away-r.ensures in
-    steps q r _ _ _ _ (current-size q rounded.requires.fact_2) (small x r (nearest_in x rounded.requires.fact_1) e) listed.with_zero-first.ensures c.offered-second.ensures
+    steps q r _ _ _ _ (current-size q rounded.requires.is_current) (small x r (nearest_in x rounded.requires.is_ideal) e) listed.with_zero-first.ensures c.offered-second.ensures
     c.offered-third.ensures c.offered.ensures
     ∙ chain q r
     ∙ ap (λ (z : ℤ). filled q (drop_repeats (q ∷ pos 0 ∷ z ∷ pred_ℤ z ∷ suc_ℤ z ∷ []))) e

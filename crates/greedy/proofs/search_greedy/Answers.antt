@@ -12,7 +12,7 @@ plan_of-plan-requires c = let a = c.requires.passed in
 pub settle-count-requires : goal.settle-count-requires
 settle-count-requires c = let plan = c.plan_of-plan.ensures in
     let K = checked-of _ _ plan.window_value c.requires (planned-lists _ plan.planned _ _ _ _) plan.coded in
-    record { ready_value = K.book_passed; coded = K.coded; fitting = fitting-of K; ready = ready_of K }
+    record { coded = K.coded; fitting = fitting-of K; ready = ready_of K }
 
 pub overflow_cast-result : goal.overflow_cast-result
 overflow_cast-result c =

@@ -1,17 +1,32 @@
-use mathlib.Core.Path.{sym, ◌∙◌}
+use Rattle.std.proofs.Common.{◌≡◌, sym, Err, arith}
 use Rattle.group_cells.proofs.Grid.{grid-none}
-use Rattle.prices.proofs.Passed.{listed-passed}
-use Rattle.group_calls.proofs.Ending.{refused-by-book, refused-by-list, ran}
+use Rattle.refusals.proofs.Numbers.{number_positive}
+use Rattle.group_calls.proofs.Ending.{passes, refused-by-book, refused-by-list, ran}
+use Rattle.group_calls.proofs.Telling.{refused-of, passed-of}
 use Rattle.group_calls.proofs.rdoq_group.Goals as goal
 
-pub returns-then-book-ne0 : goal.returns-then-book-ne0
-returns-then-book-ne0 c = refused-by-book _ _ _ _ _ _ c.check_book-book.ensures c.if-book-ne0.true
+pub returns-in_err-book : goal.returns-in_err-book
+returns-in_err-book c =
+    let stopped = c.in_err-book.field-0.0 in
+    let told : c.from_residual.result ≡ Err stopped = grind arith in
+    let refused = refused-of c.checked_book.result stopped c.in_err-book.ensures.cases in
+    let number = rw refused.0 at c.checked_book.ensures in
+    rw (told, refused.1) (refused-by-book _ _ _ _ _ _ number (λ none. omega (arith, number_positive stopped.refusal, none)))
 
-pub returns-then-list-ne0 : goal.returns-then-list-ne0
-returns-then-list-ne0 c = refused-by-list _ _ _ _ _ _ (sym c.check_book-book.ensures ∙ c.if-book-ne0.false) c.check_list-list.ensures c.if-list-ne0.true
+pub returns-in_err-map_err : goal.returns-in_err-map_err
+returns-in_err-map_err c =
+    let stopped = c.in_err-map_err.field-0.0 in
+    let told : c.from_residual-in_err-map_err.result ≡ Err stopped = grind arith in
+    let refused = refused-of c.check_list.result stopped c.in_err-map_err.ensures.cases in
+    let book = rw (passed-of c.checked_book.result _ c.in_ok-book.ensures.cases) at c.checked_book.ensures in
+    let number = rw refused.0 at c.check_list.ensures in
+    rw (told, refused.1) (refused-by-list _ _ _ _ _ _ (passes book c.in_ok-book.book.passed) number (λ none. omega (arith, number_positive stopped.refusal, none)))
 
-pub run_list-requires : goal.run_list-requires
-run_list-requires c = record { ready_value = listed-passed _ (sym c.check_book-book.ensures ∙ c.if-book-ne0.false); reals_value = (sym c.check_list-list.ensures ∙ c.if-list-ne0.false, grid-none) }
+pub run_list-requires-clause-cells_empty : goal.run_list-requires-clause-cells_empty
+run_list-requires-clause-cells_empty c = grid-none
 
 pub returns : goal.returns
-returns c = ran _ _ _ _ _ _ (sym c.check_book-book.ensures ∙ c.if-book-ne0.false) (sym c.check_list-list.ensures ∙ c.if-list-ne0.false) c.run_list.ensures
+returns c =
+    let book = rw (passed-of c.checked_book.result _ c.in_ok-book.ensures.cases) at c.checked_book.ensures in
+    let passed = rw (passed-of c.check_list.result _ c.in_ok-map_err.ensures.cases) at c.check_list.ensures in
+    ran _ _ _ _ _ _ (passes book c.in_ok-book.book.passed) (sym passed) book c.run_list.ensures

@@ -1,9 +1,5 @@
-use Prim.Native.Nat.{◌-◌, ◌≤◌}
 use Rattle.group_cells.specs.Grid.{Written}
 use Rattle.group_cells.proofs.write_cells.Given as given
 
 abbrev pub invariant-loop-j : given.invariant-loop-j
-invariant-loop-j l = (l.j ≤ l.cy) × Written l.channel l.x l.y l.cx l.j l.value l.initial.cells l.cells
-
-abbrev pub decreases-loop-j : given.decreases-loop-j
-decreases-loop-j l = l.cy - l.j
+invariant-loop-j l = Written l.channel l.x l.y l.cx l.j l.value l.initial.cells l.cells

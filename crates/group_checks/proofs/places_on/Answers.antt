@@ -1,126 +1,62 @@
-use mathlib.Core.Path.{refl, sym, ap, ◌∙◌}
+use mathlib.Core.Path.{sym, ◌∙◌, ap₂}
 use mathlib.Core.Bool.{◌&&◌}
-use Prim.Native.Nat.{◌-◌}
 use native.Mathlib.Omega.{arith}
-use Rattle.group_list.proofs.Order.{rest-start, rest_more, rest-fails, rest_all}
-use Rattle.group_checks.proofs.Marks.{placed_at, marks-more, apart-is, neighboured-is, flag-start, flag-more, flag-all, free-as, near-as, written_as, refused-30, refused-31, refused_none}
 use borrow.Author.Rules.{rules}
+use Rattle.group_list.proofs.Order.{rest-start, rest_more, rest-fails, rest_all}
+use Rattle.group_checks.proofs.Marks.{placed_at, marks-more, apart-is, neighboured-is, flag-start, flag-more, flag-all, refused-30, refused-31, refused_none}
 use Rattle.group_checks.proofs.places_on.Goals as goal
 
 pub loop-i-init : goal.loop-i-init
-loop-i-init c = (refl, (search rules, (c.requires.marks, (rest-start _ _, flag-start _ _))))
+loop-i-init c = (c.requires.marks, (rest-start _ _, flag-start _ _))
 
 pub free_cells-requires : goal.free_cells-requires
-free_cells-requires c = let loop = c.loop-i in
-    let words = c.args.words.now in
-    let inv = loop.invariant in
-    let inside = c.loop-i-test.true in
-    let pre = c.requires in
-    let placed = placed_at _ pre.tested.0 pre.tested.1.0 pre.tested.1.1 loop.i inside in
-    let x = c.wide-x.ensures in
-    let y = c.wide-y.ensures in
-    let cx = c.wide-cx.ensures in
-    let cy = c.wide-cy.ensures in
-    let channel = c.wide-channel.ensures in
-    record { marks_len = inv.1.1.0.long; channel_bound = (omega (arith, placed.channel, channel), (omega (arith, placed.across, x, cx), omega (arith, placed.down, y, cy))) }
+free_cells-requires c =
+    let placed = placed_at _ c.requires.tested.0 c.requires.tested.1.0 c.requires.tested.1.1 c.loop-i.i c.loop-i-test.true in
+    record { marks_len = c.loop-i.invariant.0.long; channel_bound = (placed.channel, (placed.across, placed.down)) }
 
 pub returns-then-not-free_cells : goal.returns-then-not-free_cells
 returns-then-not-free_cells c =
     let loop = c.loop-i in
-    let words = c.args.words.now in
-    let inv = loop.invariant in
-    let inside = c.loop-i-test.true in
-    let pre = c.requires in
-    let placed = placed_at _ pre.tested.0 pre.tested.1.0 pre.tested.1.1 loop.i inside in
-    let x = c.wide-x.ensures in
-    let y = c.wide-y.ensures in
-    let cx = c.wide-cx.ensures in
-    let cy = c.wide-cy.ensures in
-    let channel = c.wide-channel.ensures in
-    let free = free-as loop.marks words loop.i c.free_cells.ensures x y cx cy channel in
-    refused-30 _ (rest-fails _ _ _ inv.1.1.1.0 inside (λ reals. apart-is words loop.i loop.marks inv.1.1.0 placed reals ∙ sym free ∙ c.if-not-free_cells.true))
+    let placed = placed_at _ c.requires.tested.0 c.requires.tested.1.0 c.requires.tested.1.1 loop.i c.loop-i-test.true in
+    refused-30 _ (rest-fails _ _ _ loop.invariant.1.0 c.loop-i-test.true (λ reals. apart-is c.args.words.now loop.i loop.marks loop.invariant.0 placed reals ∙ sym c.free_cells.ensures ∙ c.if-not-free_cells.true))
 
 pub near_left-left-requires : goal.near_left-left-requires
-near_left-left-requires c = let loop = c.loop-i in
-    let words = c.args.words.now in
-    let inv = loop.invariant in
-    let inside = c.loop-i-test.true in
-    let pre = c.requires in
-    let placed = placed_at _ pre.tested.0 pre.tested.1.0 pre.tested.1.1 loop.i inside in
-    let x = c.wide-x.ensures in
-    let y = c.wide-y.ensures in
-    let cx = c.wide-cx.ensures in
-    let cy = c.wide-cy.ensures in
-    let channel = c.wide-channel.ensures in
-    record { marks_len = inv.1.1.0.long; channel_bound = (omega (arith, placed.channel, channel), (omega (arith, placed.across, placed.wide, x, cx), omega (arith, placed.down, placed.tall, y, cy))) }
+near_left-left-requires c =
+    let placed = placed_at _ c.requires.tested.0 c.requires.tested.1.0 c.requires.tested.1.1 c.loop-i.i c.loop-i-test.true in
+    record { marks_len = c.loop-i.invariant.0.long; channel_bound = (placed.channel, (omega (arith, placed.across, placed.wide), omega (arith, placed.down, placed.tall))) }
 
 pub near_up-up-requires : goal.near_up-up-requires
-near_up-up-requires c = let loop = c.loop-i in
-    let words = c.args.words.now in
-    let inv = loop.invariant in
-    let inside = c.loop-i-test.true in
-    let pre = c.requires in
-    let placed = placed_at _ pre.tested.0 pre.tested.1.0 pre.tested.1.1 loop.i inside in
-    let x = c.wide-x.ensures in
-    let y = c.wide-y.ensures in
-    let cx = c.wide-cx.ensures in
-    let cy = c.wide-cy.ensures in
-    let channel = c.wide-channel.ensures in
-    record { marks_len = inv.1.1.0.long; channel_bound = (omega (arith, placed.channel, channel), (omega (arith, placed.across, placed.wide, x, cx), omega (arith, placed.down, placed.tall, y, cy))) }
+near_up-up-requires c =
+    let placed = placed_at _ c.requires.tested.0 c.requires.tested.1.0 c.requires.tested.1.1 c.loop-i.i c.loop-i-test.true in
+    record { marks_len = c.loop-i.invariant.0.long; channel_bound = (placed.channel, (omega (arith, placed.across, placed.wide), omega (arith, placed.down, placed.tall))) }
 
 pub write_cells-requires : goal.write_cells-requires
-write_cells-requires c = let loop = c.loop-i in
-    let words = c.args.words.now in
-    let inv = loop.invariant in
-    let inside = c.loop-i-test.true in
-    let pre = c.requires in
-    let placed = placed_at _ pre.tested.0 pre.tested.1.0 pre.tested.1.1 loop.i inside in
-    let x = c.wide-x.ensures in
-    let y = c.wide-y.ensures in
-    let cx = c.wide-cx.ensures in
-    let cy = c.wide-cy.ensures in
-    let channel = c.wide-channel.ensures in
-    record { cells_len = inv.1.1.0.long; channel_bound = (omega (arith, placed.channel, channel), (omega (arith, placed.across, x, cx), omega (arith, placed.down, y, cy))) }
-
-pub overflow_add-i-in-loop-i-4 : goal.overflow_add-i-in-loop-i-4
-overflow_add-i-in-loop-i-4 c = omega (arith, c.loop-i-test.true, c.well_formed.0)
+write_cells-requires c =
+    let placed = placed_at _ c.requires.tested.0 c.requires.tested.1.0 c.requires.tested.1.1 c.loop-i.i c.loop-i-test.true in
+    record { cells_len = c.loop-i.invariant.0.long; channel_bound = (placed.channel, (placed.across, placed.down)) }
 
 pub loop-i-preserved : goal.loop-i-preserved
 loop-i-preserved c =
     let loop = c.loop-i in
     let words = c.args.words.now in
-    let inv = loop.invariant in
     let inside = c.loop-i-test.true in
-    let pre = c.requires in
-    let placed = placed_at _ pre.tested.0 pre.tested.1.0 pre.tested.1.1 loop.i inside in
-    let x = c.wide-x.ensures in
-    let y = c.wide-y.ensures in
-    let cx = c.wide-cx.ensures in
-    let cy = c.wide-cy.ensures in
-    let channel = c.wide-channel.ensures in
-    let free = free-as loop.marks words loop.i c.free_cells.ensures x y cx cy channel in
-    let near = near-as loop.marks words loop.i c.near_left-left.ensures c.near_up-up.ensures x y channel in (
-      refl,
+    let placed = placed_at _ c.requires.tested.0 c.requires.tested.1.0 c.requires.tested.1.1 loop.i inside in
+    let near = ap₂ ◌&&◌ c.near_left-left.ensures c.near_up-up.ensures in (
+      marks-more _ _ _ _ loop.invariant.0 c.write_cells.ensures,
       (
-        omega (arith, inside),
-        (
-          marks-more _ _ _ _ inv.1.1.0 (written_as words loop.i _ _ c.write_cells.ensures x y cx cy channel),
-          (
-            rest_more _ _ _ inv.1.1.1.0 inside (λ reals. apart-is words loop.i loop.marks inv.1.1.0 placed reals ∙ sym free ∙ c.if-not-free_cells.false),
-            flag-more _ _ _ _ _ _ inv.1.1.1.1 inside (λ reals. neighboured-is words loop.i loop.marks inv.1.1.0 placed reals ∙ sym near) (c.both-neighboured.ensures ∙ ap (◌&&◌ loop.neighboured) c.both.ensures),
-          ),
-        ),
+        rest_more _ _ _ loop.invariant.1.0 inside (λ reals. apart-is words loop.i loop.marks loop.invariant.0 placed reals ∙ sym c.free_cells.ensures ∙ c.if-not-free_cells.false),
+        flag-more _ _ _ _ _ _ loop.invariant.1.1 inside (λ reals. neighboured-is words loop.i loop.marks loop.invariant.0 placed reals ∙ sym near) (search rules),
       ),
     )
 
-pub returns-then-neighboured : goal.returns-then-neighboured
-returns-then-neighboured c =
+pub returns-then-neighboured-2 : goal.returns-then-neighboured-2
+returns-then-neighboured-2 c =
     let inv = c.loop-i.invariant in
     let all = c.loop-i-test.false in
-    refused_none _ (rest_all _ _ _ inv.1.1.1.0 all) (λ reals. sym c.if-neighboured.true ∙ flag-all _ _ _ _ inv.1.1.1.1 all reals)
+    refused_none _ (rest_all _ _ _ inv.1.0 all) (λ reals. sym c.if-neighboured-2.true ∙ flag-all _ _ _ _ inv.1.1 all reals)
 
-pub returns-else-neighboured : goal.returns-else-neighboured
-returns-else-neighboured c =
+pub returns-else-neighboured-2 : goal.returns-else-neighboured-2
+returns-else-neighboured-2 c =
     let inv = c.loop-i.invariant in
     let all = c.loop-i-test.false in
-    refused-31 _ (rest_all _ _ _ inv.1.1.1.0 all) (λ reals. sym c.if-neighboured.false ∙ flag-all _ _ _ _ inv.1.1.1.1 all reals)
+    refused-31 _ (rest_all _ _ _ inv.1.0 all) (λ reals. sym c.if-neighboured-2.false ∙ flag-all _ _ _ _ inv.1.1 all reals)

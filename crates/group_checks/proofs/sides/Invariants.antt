@@ -1,12 +1,6 @@
-use mathlib.Core.Path.{◌≡◌}
-use Prim.Native.Nat.{◌-◌, ◌≤◌}
 use Rattle.group_list.specs.Checks.{sided}
-use Rattle.group_list.specs.Heads.{blocks_in}
 use Rattle.group_list.proofs.Order.{Rest}
 use Rattle.group_checks.proofs.sides.Given as given
 
 abbrev pub invariant-loop-i : given.invariant-loop-i
-invariant-loop-i l = (l.blocks ≡ blocks_in l.words) × ((l.i ≤ l.blocks) × Rest sided l.words l.i)
-
-abbrev pub decreases-loop-i : given.decreases-loop-i
-decreases-loop-i l = l.blocks - l.i
+invariant-loop-i l = Rest sided l.words l.i

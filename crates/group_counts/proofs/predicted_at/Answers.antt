@@ -10,5 +10,5 @@ returns c =
     λ reals done g.
     let a = c.args in
     let p = c.requires.1.0 in
-    (rw (c.wide-x.ensures, c.wide-y.ensures, c.wide-channel.ensures) at c.predict_from_top_and_left.ensures)
+    c.predict_from_top_and_left.ensures
     ∙ grid-predicts done a.cells.now g (head_at a.words.now reals a.i) p.known (omega (arith, p.wide, p.across)) (omega (arith, p.tall, p.down))

@@ -1,17 +1,16 @@
-use mathlib.Core.Path.{sym, ◌∙◌}
-use lib.Dec.{lit≤}
-use Rattle.search_checks.proofs.Refusing.{accepted-listed}
+use Rattle.std.proofs.Common.{◌≡◌, sym, refl, Err, arith}
+use Rattle.refusals.proofs.Numbers.{number_positive}
+use Rattle.search_checks.proofs.Refusing.{accepted-checked}
 use Rattle.input_cost.proofs.Meaning.{refuses, answers}
 use Rattle.input_cost.proofs.rdoq_input_cost.Goals as goal
 
-pub check_search-refusal-requires : goal.check_search-refusal-requires
-check_search-refusal-requires c = (lit≤ tt, lit≤ tt)
-
-pub returns-then-refusal-ne0 : goal.returns-then-refusal-ne0
-returns-then-refusal-ne0 c = refuses _ _ c.check_search-refusal.ensures c.if-refusal-ne0.true
+pub returns-in_err-book : goal.returns-in_err-book
+returns-in_err-book c =
+    let told : c.from_residual.result ≡ Err c.in_err-book.field-0.0 = grind arith in
+    rw told (refuses _ _ c.in_err-book.ensures (λ none. omega (arith, number_positive c.in_err-book.field-0.0, none)))
 
 pub passed_cost-requires : goal.passed_cost-requires
-passed_cost-requires c = accepted-listed _ 1024 _ _ _ (sym c.check_search-refusal.ensures ∙ c.if-refusal-ne0.false) (lit≤ tt)
+passed_cost-requires c = accepted-checked _ 1024 _ _ _ c.in_ok-book.ensures.1 c.in_ok-book.ensures.0 (omega arith)
 
 pub returns : goal.returns
-returns c = answers _ _ c.check_search-refusal.ensures c.if-refusal-ne0.false c.passed_cost.ensures
+returns c = answers _ _ (sym c.in_ok-book.ensures.1) refl c.in_ok-book.ensures.0 c.passed_cost.ensures

@@ -1,6 +1,5 @@
 use Rattle.packing.proofs.Shifts.{one_up}
 use Rattle.packing.proofs.power.Goals as goal
 
--- src/lib.rt:33:1
 pub returns : goal.returns
 returns c = one_up c.args.k c.requires

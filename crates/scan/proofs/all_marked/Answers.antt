@@ -1,17 +1,23 @@
-use Prim.Native.Nat.{◌-◌}
+use Prim.Native.Nat.{◌<◌}
 use mathlib.Core.Path.{◌≡◌}
 use native.Mathlib.Omega.{arith}
-use borrow.Author.Rules.{rules}
+use lib.ListN.{get_or, take}
+use Rattle.std.proofs.lemmas.List.{get_or-take, length-take-le}
 use Rattle.scan.proofs.Marks.{least-none, least_more, least-done}
 use Rattle.scan.proofs.all_marked.Goals as goal
 
-pub loop-k-init : goal.loop-k-init
-loop-k-init c = (search rules, least-none _)
+pub loop-mark-init : goal.loop-mark-init
+loop-mark-init c = least-none _
 
-pub loop-k-preserved : goal.loop-k-preserved
-loop-k-preserved c = (search rules, least_more _ _ c.loop-k.invariant.1 c.smaller-least.ensures.0 c.smaller-least.ensures.1)
+pub loop-mark-preserved : goal.loop-mark-preserved
+loop-mark-preserved c =
+    let marks = c.args.marks.now in
+    let k = c.loop-mark.mark-index in
+    let below : k < c.args.n = omega (arith, c.loop-mark-test.true, length-take-le c.args.n marks c.requires) in
+    let here : get_or (take c.args.n marks) k 0 ≡ get_or marks k 0 = get_or-take c.args.n marks k 0 below in
+    least_more _ _ c.loop-mark.invariant (rw here at c.min-least.ensures)
 
 pub returns : goal.returns
 returns c =
-    let end : c.loop-k.k ≡ c.args.n = omega arith in
-    least-done _ (rw end at c.loop-k.invariant.1)
+    let end : c.loop-mark.mark-index ≡ c.args.n = omega (arith, c.loop-mark-test.false, length-take-le c.args.n c.args.marks.now c.requires) in
+    least-done _ (rw end at c.loop-mark.invariant)

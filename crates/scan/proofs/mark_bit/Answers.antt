@@ -1,22 +1,14 @@
 use Prim.Native.Nat.{◌%◌, ◌<◌}
+use mathlib.Core.Path.{refl}
 use native.Mathlib.Omega.{arith}
-use borrow.Author.Rules.{rules}
+use lib.ListN.{get_or}
 use Rattle.scan.proofs.Bits.{bits-more, one_shl}
 use Rattle.scan.proofs.mark_bit.Goals as goal
 
-pub overflow_shl-words : goal.overflow_shl-words
-overflow_shl-words c = omega arith
-
-pub overflow_add-result : goal.overflow_add-result
-overflow_add-result c = record { fits = omega (arith, c.requires.marks.few) }
-
-pub returns : goal.returns
-returns c = let entry = c.before.before.before.before.before.before.before in
-    let x = c.wide-x.result in
+pub returns-clause-marks_2 : goal.returns-clause-marks_2
+returns-clause-marks_2 c =
+    let x = get_or c.args.scan.now c.args.k 0 in
     let below : x % 64 < 64 = omega arith in
     let out = c.outside.ensures in
-    record {
-      marks_2 = rw (one_shl (x % 64) below, c.word_of-at.ensures.1)
-          (bits-more entry.args.words.now entry.requires.words_nonzero.1.0 entry.requires.marks entry.requires.words_nonzero.1.1 c.wide-x.ensures out.0 out.1.0 out.1.1);
-      words_len_unchanged = search rules;
-    }
+    let enough = c.requires.words_nonzero.1 in
+    rw (one_shl (x % 64) below, c.word_of-at.ensures.1) (bits-more c.args.words.now enough.0 c.requires.marks enough.1 refl out.0 out.1.0 out.1.1)

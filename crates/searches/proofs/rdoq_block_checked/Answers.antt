@@ -1,16 +1,23 @@
-use mathlib.Core.Path.{refl, sym, ◌∙◌}
+use Rattle.std.proofs.Common.{◌≡◌, ◌∙◌, refl, sym, Err, arith}
 use Rattle.block_checks.proofs.Laws.{passed}
+use Rattle.refusals.proofs.Numbers.{number_positive}
 use Rattle.searches.proofs.Results.{by-check, refused-outcome, let-pass, searchable, promised}
 use Rattle.searches.proofs.rdoq_block_checked.Goals as goal
 
-pub check_block_and_room-refusal-requires : goal.check_block_and_room-refusal-requires
-check_block_and_room-refusal-requires c = (c.asked_by-asked.ensures.bytes_bound, c.requires.0)
+pub check_block_and_room-requires : goal.check_block_and_room-requires
+check_block_and_room-requires c = (c.asked_by-asked.ensures.bytes_bound, c.requires)
 
-pub returns-then-refusal-ne0 : goal.returns-then-refusal-ne0
-returns-then-refusal-ne0 c = promised _ _ _ _ (λ n. passed n _ _ c.requires.0) _ refl _ (refused-outcome _ _ _ _ _ _ (by-check _ _ _ _ _ _ c.requires.1 c.asked_by-asked.ensures.value c.check_block_and_room-refusal.ensures) c.if-refusal-ne0.true)
+pub returns-in_err-check_block_and_room : goal.returns-in_err-check_block_and_room
+returns-in_err-check_block_and_room c =
+    let told : c.from_residual.result ≡ Err c.in_err-check_block_and_room.field-0.0 = grind arith in
+    let number = by-check _ _ _ _ _ _ c.args.book.now.passed c.asked_by-asked.ensures.value c.in_err-check_block_and_room.ensures in
+    rw told (promised _ _ _ _ (λ n. passed n _ _ c.requires) _ refl _ (refused-outcome _ _ _ _ _ _ number (λ none. omega (arith, number_positive c.in_err-check_block_and_room.field-0.0, none))))
 
 pub search_block-requires : goal.search_block-requires
-search_block-requires c = searchable _ _ _ _ _ _ c.requires.0 (sym (by-check _ _ _ _ _ _ c.requires.1 c.asked_by-asked.ensures.value c.check_block_and_room-refusal.ensures) ∙ c.if-refusal-ne0.false)
+search_block-requires c =
+    searchable _ _ _ _ _ _ c.requires (sym (by-check _ _ _ _ _ _ c.args.book.now.passed c.asked_by-asked.ensures.value c.in_ok-check_block_and_room.ensures))
 
 pub returns : goal.returns
-returns c = promised _ _ _ _ (λ n. passed n _ _ c.requires.0) _ refl _ (let-pass _ _ _ _ _ _ (sym (by-check _ _ _ _ _ _ c.requires.1 c.asked_by-asked.ensures.value c.check_block_and_room-refusal.ensures) ∙ c.if-refusal-ne0.false) c.search_block.ensures)
+returns c =
+    let none = sym (by-check _ _ _ _ _ _ c.args.book.now.passed c.asked_by-asked.ensures.value c.in_ok-check_block_and_room.ensures) in
+    promised _ _ _ _ (λ n. passed n _ _ c.requires) _ refl _ (let-pass _ _ _ _ _ _ none c.search_block.ensures)

@@ -1,19 +1,19 @@
-use mathlib.Core.Path.{refl, sym, ◌∙◌}
+use Rattle.std.proofs.Common.{◌≡◌, refl, Err, arith}
 use Rattle.block_checks.proofs.Laws.{passed}
-use Rattle.prices.proofs.Passed.{listed-passed}
-use Rattle.searches.proofs.Results.{by-book, refused-outcome, from-lists, promised}
+use Rattle.refusals.proofs.Numbers.{number_positive}
+use Rattle.refusals.specs.Numbers.{number_of}
+use Rattle.searches.proofs.Results.{by-book, refused-outcome, promised, for-book}
 use Rattle.searches.proofs.rdoq_block_in.Goals as goal
 
-pub returns-then-refusal-ne0 : goal.returns-then-refusal-ne0
-returns-then-refusal-ne0 c = promised _ _ _ _ (λ n. passed n _ _ c.requires) _ refl _ (refused-outcome _ _ _ _ _ _ (by-book _ _ _ _ _ _ c.check_book-refusal.ensures c.if-refusal-ne0.true) c.if-refusal-ne0.true)
+pub returns-in_err-book : goal.returns-in_err-book
+returns-in_err-book c =
+    let refusal = c.in_err-book.field-0.0 in
+    let told : c.from_residual.result ≡ Err refusal = grind arith in
+    let some : number_of refusal ≡ 0 → ⊥ = λ none. omega (arith, number_positive refusal, none) in
+    rw told (promised _ _ _ _ (λ n. passed n _ _ c.requires) _ refl _ (refused-outcome _ _ _ _ _ _ (by-book _ _ _ _ _ _ c.in_err-book.ensures some) some))
 
 pub rdoq_block_checked-requires : goal.rdoq_block_checked-requires
-rdoq_block_checked-requires c =
-    let checked = c.before.before.before.before.before in
-    (checked.requires, listed-passed _ (sym checked.check_book-refusal.ensures ∙ checked.if-refusal-ne0.false))
+rdoq_block_checked-requires c = c.requires
 
 pub returns : goal.returns
-returns c =
-    let done = c.before.before.before.before.before.before.before.before in
-    let ok = sym done.check_book-refusal.ensures ∙ done.if-refusal-ne0.false in
-    from-lists _ ok done.rdoq_block_checked.ensures
+returns c = for-book c.in_ok-book.ensures c.rdoq_block_checked.ensures

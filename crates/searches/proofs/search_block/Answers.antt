@@ -8,10 +8,10 @@ pub search_beam-answer-requires : goal.search_beam-answer-requires
 search_beam-answer-requires c = (c.requires.accepted, beam-room c.requires c.in-Beam.is)
 
 pub search_banded-requires : goal.search_banded-requires
-search_banded-requires c = record { width_bound = c.requires.narrow; fact = (c.requires.accepted, trellis-room c.requires c.in-Trellis.is) }
+search_banded-requires c = record { width_bound = c.requires.narrow; accepted = (c.requires.accepted, trellis-room c.requires c.in-Trellis.is) }
 
 pub search_banded-requires-in-Unfactored : goal.search_banded-requires-in-Unfactored
-search_banded-requires-in-Unfactored c = record { width_bound = c.requires.narrow; fact = (c.requires.accepted, unfactored-room c.requires c.in-Unfactored.is) }
+search_banded-requires-in-Unfactored c = record { width_bound = c.requires.narrow; accepted = (c.requires.accepted, unfactored-room c.requires c.in-Unfactored.is) }
 
 pub returns-in-Greedy : goal.returns-in-Greedy
 returns-in-Greedy c = greedy-searched _ _ _ _ _ _ c.in-Greedy.is c.search_greedy.ensures

@@ -1,5 +1,4 @@
 use mathlib.Core.Path.{refl, sym, ◌∙◌}
-use lib.Dec.{lit≤}
 use Rattle.block.specs.Block.{covered}
 use Rattle.small.specs.Small.{check32}
 use Rattle.small.proofs.Results.{not-small, searched}
@@ -9,12 +8,6 @@ pub returns-then-not-is_small : goal.returns-then-not-is_small
 unfolding check32 covered
 returns-then-not-is_small c = not-small _ _ _ _ (sym c.is_small.ensures ∙ c.if-not-is_small.true) refl
 
-pub rdoq_block_in-requires : goal.rdoq_block_in-requires
-rdoq_block_in-requires c = lit≤ tt
-
 pub returns : goal.returns
 unfolding check32 covered
-returns c =
-    let call = c.before.before.before.before.before.before.before.before in
-    let test = call.before.before.before.before.before in
-    searched _ _ _ _ (sym test.is_small.ensures ∙ test.if-not-is_small.false) call.rdoq_block_in.ensures
+returns c = searched _ _ _ _ (sym c.is_small.ensures ∙ c.if-not-is_small.false) c.rdoq_block_in.ensures

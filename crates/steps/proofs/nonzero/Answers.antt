@@ -1,9 +1,6 @@
-use Rattle.steps.proofs.Zero.{zero-nz, other-nz}
-use mathlib.Core.Path.{sym}
+use Rattle.steps.proofs.Zero.{nonzero-byte}
 use Rattle.steps.proofs.nonzero.Goals as goal
+use mathlib.Core.Path.{◌∙◌}
 
-pub returns-then-level-eq0 : goal.returns-then-level-eq0
-returns-then-level-eq0 c = sym (zero-nz _ c.ranges.level c.if-level-eq0.true)
-
-pub returns-else-level-eq0 : goal.returns-else-level-eq0
-returns-else-level-eq0 c = sym (other-nz _ c.if-level-eq0.false)
+pub returns : goal.returns
+returns c = c.from.ensures ∙ nonzero-byte _ c.ranges.level

@@ -1,15 +1,12 @@
-use Prim.Native.Nat.{◌-◌}
 use native.Mathlib.Omega.{arith}
 use Rattle.store_hold.proofs.Holding.{end-within, behind-made, moved_made}
 use Rattle.store_hold.proofs.make_room.Goals as goal
 
--- src/store.rt:29:9
 pub end_of-end-requires : goal.end_of-end-requires
 end_of-end-requires c = let entry = c.before.before.before in
     let w = end-within entry.args.room.now entry.args.rec.now entry.args.count entry.requires.1.1 in
     record { rec_len = (entry.requires.0, entry.requires.1.0); count_bound = omega arith }
 
--- src/store.rt:30:13
 pub overflow_sub-room : goal.overflow_sub-room
 overflow_sub-room c =
     let entry = c.before.before.before.before in
@@ -17,14 +14,12 @@ overflow_sub-room c =
     let e = c.end_of-end.ensures in
     omega arith
 
--- src/store.rt:31:9
 pub returns-then-n-room : goal.returns-then-n-room
 returns-then-n-room c =
     let entry = c.before.before.before.before.before in
     let w = end-within entry.args.room.now entry.args.rec.now entry.args.count entry.requires.1.1 in
     behind-made _ _ _ _ _ c.end_of-end.ensures (rw c.end_of-end.ensures w) c.if-n-room.true
 
--- src/store.rt:25:1
 pub returns : goal.returns
 returns c =
     let entry = c.before.before.before.before.before.before.before.before.before.before.before.before in

@@ -5,11 +5,9 @@ use Rattle.store_passes.proofs.Passes.{end-last, end_none}
 use borrow.Author.Rules.{rules}
 use Rattle.store_passes.proofs.end_of.Goals as goal
 
--- src/lib.rt:54:9
 pub returns-then-count-eq0 : goal.returns-then-count-eq0
 returns-then-count-eq0 c = rw c.if-count-eq0.true (sym (end_none _))
 
--- src/lib.rt:57:6
 pub overflow_add-result-3 : goal.overflow_add-result-3
 overflow_add-result-3 c =
     let a = c.args in
@@ -17,7 +15,6 @@ overflow_add-result-3 c =
     let sum = rw e at (end-last a.rec.now (a.count - 1)) in
     search rules
 
--- src/lib.rt:48:1
 pub returns : goal.returns
 returns c =
     let a = c.args in

@@ -1,13 +1,10 @@
-use Prim.Native.Nat.{◌-◌}
 use borrow.Author.Tests.{eq-eqb, ne_eqb}
 use Rattle.store_passes.proofs.keep_run.Goals as goal
 
--- src/lib.rt:79:9
 pub returns-then-block-number : goal.returns-then-block-number
 returns-then-block-number c = let e = eq-eqb _ _ c.if-block-number.true in
     record { value = rw e; rec_after = rw e }
 
--- src/lib.rt:73:1
 pub returns : goal.returns
 returns c = let e = ne_eqb _ _ c.if-block-number.false in
     record { value = rw e; rec_after = rw e c.write_run.ensures }

@@ -1,23 +1,22 @@
-use Prim.Native.Nat.{◌-◌}
-use Rattle.store_passes.proofs.Passes.{add_start, add_small, add-next, add-end}
-use borrow.Author.Rules.{rules}
+use native.Mathlib.Omega.{arith}
+use Rattle.store_passes.proofs.Passes.{add_start, add_small, add-next, add-not, add-end}
+use Rattle.store_passes.proofs.live_but.Goals.{then-rec-i, else-rec-i}
 use Rattle.store_passes.proofs.live_but.Goals as goal
 
--- src/lib.rt:40:5
 pub loop-i-init : goal.loop-i-init
 loop-i-init c = add_start _ _ _
 
--- src/lib.rt:41:9
-pub overflow_add-sum : goal.overflow_add-sum
-overflow_add-sum c =
-    let at = c.before.before.before.before in
-    let small = add_small _ _ _ _ _ _ at.loop-i.invariant c.loop-i-test.true c.size_but-sum.ensures.0 c.size_but-sum.ensures.1 in
-    search rules
+pub overflow_add-sum-then-rec-i : goal.overflow_add-sum-then-rec-i
+overflow_add-sum-then-rec-i c =
+    let small = add_small _ _ _ _ _ c.loop-i.invariant c.loop-i-test.true in
+    record { fits = omega (arith, small, c.requires.count_bound) }
 
--- src/lib.rt:40:5
 pub loop-i-preserved : goal.loop-i-preserved
-loop-i-preserved c = add-next _ _ _ _ _ _ c.loop-i.invariant c.loop-i-test.true c.size_but-sum.ensures.0 c.size_but-sum.ensures.1
+loop-i-preserved c =
+    elim c.if-rec-i.branch [
+      | then-rec-i w ↦ rw w.sum-is (add-next _ _ _ _ _ c.loop-i.invariant c.loop-i-test.true w.if-rec-i.true)
+      | else-rec-i w ↦ rw w.sum-is (add-not _ _ _ _ _ c.loop-i.invariant c.loop-i-test.true w.if-rec-i.false)
+    ]
 
--- src/lib.rt:33:1
 pub returns : goal.returns
 returns c = add-end _ _ _ _ _ c.loop-i.invariant c.loop-i-test.false

@@ -1,10 +1,6 @@
-use Prim.Native.Nat.{◌-◌}
 use Rattle.store_passes.proofs.Passes.{Adding}
 use Rattle.store_passes.proofs.live_but.Given as given
 
 abbrev pub invariant-loop-i : given.invariant-loop-i
 invariant-loop-i l =
     Adding l.block l.rec l.count l.i l.sum
-
-abbrev pub decreases-loop-i : given.decreases-loop-i
-decreases-loop-i l = l.count - l.i

@@ -6,17 +6,14 @@ use Rattle.store_record.specs.Runs.{valid_record, runs_of}
 use Rattle.store_record.proofs.Marks.{pass-valid}
 use Rattle.store_record.proofs.valid.Goals as goal
 
--- src/lib.rt:58:9
 pub returns-then-rec-ne-RECORD : goal.returns-then-rec-ne-RECORD
 unfolding valid_record runs_of
 returns-then-rec-ne-RECORD c = simp (ne_eqb _ _ c.if-rec-ne-RECORD.true)
 
--- src/lib.rt:62:9
 pub returns-then-count-gt-RUNS : goal.returns-then-count-gt-RUNS
 unfolding valid_record runs_of
 returns-then-count-gt-RUNS c = simp (lt-leb _ _ c.if-count-gt-RUNS.true, and-false)
 
--- src/lib.rt:54:1
 pub returns : goal.returns
 unfolding valid_record runs_of
 returns c =

@@ -1,38 +1,25 @@
-use Prim.Native.Nat.{◌≤◌, ◌-◌, ◌+◌, ◌*◌}
-use mathlib.Core.Path.{refl}
+use Prim.Native.Nat.{◌+◌, ◌*◌, ◌≤◌}
 use native.Mathlib.Omega.{arith}
 use lib.ListN.{length, get_or}
-use Rattle.store_room.proofs.Packing.{pack-start, pack-next, pack-end, turn}
 use borrow.Author.Rules.{rules}
+use Rattle.store_room.proofs.Packing.{pack-start, turn, pack-next, pack-end}
 use Rattle.store_room.proofs.compact.Goals as goal
 
--- src/lib.rt:42:5
 pub loop-i-init : goal.loop-i-init
-loop-i-init c = (refl, (refl, pack-start _ _ _ c.requires.0 c.requires.1.1))
+loop-i-init c = pack-start _ _ _ c.requires.0 c.requires.1.1
 
--- src/lib.rt:46:9
 pub move_down-requires : goal.move_down-requires
-move_down-requires c =
-    let at = c.before.before.before.before.before in
-    let pre = at.requires in
-    turn _ _ _ _ _ _ _ at.loop-i.invariant.1.1 pre.0 pre.1.0 c.loop-i-test.true
+move_down-requires c = turn _ _ _ _ _ _ _ c.loop-i.invariant c.requires.0 c.requires.1.0 c.loop-i-test.true
 
--- src/lib.rt:48:9
 pub overflow_add-top : goal.overflow_add-top
 overflow_add-top c =
-    let at = c.before.before.before.before.before.before.before.before.before.before.before.before in
-    let pre = at.requires in
-    let t = turn _ _ _ _ at.loop-i.room at.loop-i.rec at.loop-i.top at.loop-i.invariant.1.1 pre.0 pre.1.0 c.loop-i-test.true in
-    let h : at.loop-i.top + get_or at.loop-i.rec (3 * at.loop-i.i + 3) 0 ≤ length at.loop-i.room = omega (arith, t.0, t.1) in
+    let at = c.loop-i in
+    let t = turn _ _ _ _ at.room at.rec at.top at.invariant c.requires.0 c.requires.1.0 c.loop-i-test.true in
+    let h : at.top + get_or at.rec (3 * at.i + 3) 0 ≤ length at.room = omega (arith, t.0, t.1) in
     search rules
 
--- src/lib.rt:42:5
 pub loop-i-preserved : goal.loop-i-preserved
-loop-i-preserved c =
-    let at = c.before.before.before.before.before.before.before.before.before.before.before.before in
-    let pre = at.requires in
-    (search rules, (search rules, pack-next _ _ _ _ _ _ _ at.loop-i.invariant.1.1 pre.0 pre.1.0 c.loop-i-test.true c.move_down.ensures c.write_run.ensures))
+loop-i-preserved c = pack-next _ _ _ _ _ _ _ c.loop-i.invariant c.requires.0 c.requires.1.0 c.loop-i-test.true c.move_down.ensures c.write_run.ensures
 
--- src/lib.rt:36:1
 pub returns : goal.returns
-returns c = pack-end _ _ _ _ _ _ _ c.loop-i.invariant.1.1 c.loop-i-test.false
+returns c = pack-end _ _ _ _ _ _ _ c.loop-i.invariant c.loop-i-test.false

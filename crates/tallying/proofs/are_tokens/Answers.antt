@@ -1,39 +1,29 @@
-use Prim.Native.Nat.{◌-◌}
-use mathlib.Core.Path.{◌≡◌, refl, sym, ◌∙◌}
-use mathlib.Core.Bool.{true}
-use native.Mathlib.Omega.{arith}
-use borrow.Author.Rules.{rules}
-use lib.ListN.{length}
-use Rattle.prices.specs.Checks.{each}
-use Rattle.prices.proofs.Each.{each_more}
-use Rattle.tallying.proofs.Checks.{is_token, other-lengths, no-token, all-tokens}
+use Rattle.std.proofs.Common.{◌≡◌, true, false, leb, sym, ◌∙◌, rules, tests}
+use Rattle.std.proofs.lemmas.Iterator.{YieldsList-from_slice}
+use Rattle.std.proofs.lemmas.Iterator.Search.{all_from_yields_List}
+use borrow.Author.Tests.{eqb-true}
+use Rattle.tallying.specs.Uses.{tokens_of}
+use Rattle.tallying.proofs.Checks.{other-lengths, both-lists}
+use Rattle.tallying.proofs.are_tokens.Goals.{then-values-contexts, else-values-contexts}
 use Rattle.tallying.proofs.are_tokens.Goals as goal
 
-pub returns-then-values-contexts : goal.returns-then-values-contexts
-returns-then-values-contexts c = other-lengths _ c.if-values-contexts.true
+pub returns-then-all : goal.returns-then-all
+returns-then-all c =
+    elim c.if-values-contexts.branch [
+      | then-values-contexts w ↦
+          let contexts = all_from_yields_List (λ context. leb context 14849) _ _ w.all.result w.all.ensures.ran (YieldsList-from_slice c.args.contexts.now (cc)) (λ x b q k. search (rules, tests)) in
+          let values = all_from_yields_List (λ value. leb value 131071) _ _ c.all-then-all.result c.all-then-all.ensures.ran (YieldsList-from_slice c.args.values.now (cc)) (λ x b q k. search (rules, tests)) in
+          let passes : w.all.result ≡ true = sym w.value-is ∙ c.if-all.true in
+          values ∙ rw (sym contexts ∙ passes) at (both-lists (tokens_of c.args.contexts.now c.args.values.now) w.if-values-contexts.true)
+      | else-values-contexts w ↦ absurd (w.if-values-contexts.false (eqb-true _ _ (sym w.value-is ∙ c.if-all.true)))
+    ]
 
-pub loop-i-init : goal.loop-i-init
-unfolding each
-loop-i-init c = (search rules, refl)
-
-pub bounds-values-i : goal.bounds-values-i
-bounds-values-i c = omega (arith, c.loop-i-test.true, c.if-values-contexts.false)
-
-pub loop-i-smaller : goal.loop-i-smaller
-loop-i-smaller c = omega (arith, c.loop-i-test.true)
-
-pub loop-i-preserved : goal.loop-i-preserved
-loop-i-preserved c = (
-  omega (arith, c.loop-i-test.true),
-  each_more _ _ c.loop-i.invariant.1 (sym c.is_token.ensures ∙ c.if-is_token.true),
-)
-
-pub returns-else-is_token : goal.returns-else-is_token
-returns-else-is_token c =
-    no-token _ c.if-values-contexts.false c.loop-i.i c.loop-i-test.true
-    (sym c.is_token.ensures ∙ c.if-is_token.false)
-
-pub returns : goal.returns
-returns c =
-    let all : c.loop-i.i ≡ length c.args.contexts.now = omega (arith, c.loop-i.invariant.0, c.loop-i-test.false) in
-    all-tokens _ c.if-values-contexts.false (rw all at c.loop-i.invariant.1)
+pub returns-else-all : goal.returns-else-all
+returns-else-all c =
+    elim c.if-values-contexts.branch [
+      | then-values-contexts w ↦
+          let contexts = all_from_yields_List (λ context. leb context 14849) _ _ w.all.result w.all.ensures.ran (YieldsList-from_slice c.args.contexts.now (cc)) (λ x b q k. search (rules, tests)) in
+          let fails : w.all.result ≡ false = sym w.value-is ∙ c.if-all.false in
+          c.if-all.false ∙ rw (sym contexts ∙ fails) at (both-lists (tokens_of c.args.contexts.now c.args.values.now) w.if-values-contexts.true)
+      | else-values-contexts w ↦ c.if-all.false ∙ other-lengths (tokens_of c.args.contexts.now c.args.values.now) w.if-values-contexts.false
+    ]

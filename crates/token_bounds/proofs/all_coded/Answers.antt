@@ -6,7 +6,7 @@ use lib.IntN.{ℤ}
 use lib.ListN.{length}
 use Rattle.block.specs.declared.Shape.{Shape}
 use Rattle.steps.proofs.Counting.{among-most}
-use Rattle.block_tokens.specs.Code.{Code, code_of}
+use Rattle.block_tokens.specs.Code.{Code, contents}
 use Rattle.token_steps.specs.Steps.{Placed}
 use Rattle.token_steps.proofs.Walk.{Next, next, has-token, written_at, at-start, Counting, coded-next, coded-fails, count-coded, count-fails, counted-all}
 use Rattle.token_bounds.proofs.all_coded.Lts
@@ -26,7 +26,7 @@ Start = Lts.Start Tie.the-claims Reads.Pre Reads.Post goal.the-invariant-loop-le
 -- what is lent
 module _ (c : Start) where
   abbrev x : Code
-  x = code_of c.args.map.now c.args.configs.now
+  x = contents c.args.code.now
 
   abbrev scan : List ℕ
   scan = c.args.scan.now
@@ -35,7 +35,7 @@ module _ (c : Start) where
   levels = c.args.levels.now
 
   abbrev placed : Placed c.args.layout scan levels
-  placed = c.requires.coded.1
+  placed = c.requires.placed
 
   size : length scan ≡ 64 * c.args.layout.covered
   size = omega (arith, placed.laid.covered_is, placed.scanned.order.size)
@@ -44,25 +44,25 @@ module _ (c : Start) where
   count_most = omega (arith, c.requires.count_value, among-most c.args.scan.now c.args.levels.now c.args.layout.covered (length c.args.scan.now - c.args.layout.covered), size, placed.laid.most)
 
 pub overflow_cast-count : goal.overflow_cast-count
-overflow_cast-count c = record { fits = omega (arith, count_most c.before.before.before.before) }
+overflow_cast-count c = record { fits = omega (arith, count_most c.before.before) }
 
 pub split_in-split-requires : goal.split_in-split-requires
-split_in-split-requires c = let s = c.before.before.before.before in
-    record { coded = s.requires.coded.0; context_bound = ((placed s).laid.count_most, omega (arith, count_most s)) }
+split_in-split-requires c = let s = c.before.before in
+    record { context_bound = ((placed s).laid.count_most, omega (arith, count_most s)) }
 
 pub returns-then-split-gt127 : goal.returns-then-split-gt127
 returns-then-split-gt127 c =
     let t = c.before.before.before in
-    let s = t.before.before.before.before in
+    let s = t.before.before in
     λ h laid scanned. sym (count-fails (x s) h (scan s) (levels s) laid scanned _ s.requires.count_value _ t.split_in-split.ensures c.if-split-gt127.true)
 
 pub first_prev-prev-requires : goal.first_prev-prev-requires
-first_prev-prev-requires c = (placed c.before.before.before.before.before.before.before).laid.most
+first_prev-prev-requires c = (placed c.before.before.before.before.before).laid.most
 
 pub loop-left-init : goal.loop-left-init
 loop-left-init c =
     let t = c.before.before.before.before in
-    let s = t.before.before.before.before in
+    let s = t.before.before in
     λ h laid scanned.
     record {
       at = at-start h _ _ laid scanned _ _ s.requires.count_value c.first_prev-prev.ensures;
@@ -72,7 +72,7 @@ loop-left-init c =
 -- at a position
 module _ (c : At-loop-left) where
   abbrev start : Start
-  start = c.before.before.before.before.before.before.before.before
+  start = c.before.before.before.before.before.before
 
   abbrev shape : Shape
   shape = (placed start).shape
@@ -84,7 +84,7 @@ pub token_at-step-requires : goal.token_at-step-requires
 token_at-step-requires c = let p = c.before.before in
     let s = start p in
     let n = next _ _ _ _ _ _ (here p).at c.loop-left-test.true in
-    record { coded = s.requires.coded.0; has_token = has-token _ _ _ (placed s).laid (placed s).scanned (s.requires.levels_value _ (placed s).laid) _ _ _ (here p).at n }
+    record { has_token = has-token _ _ _ (placed s).laid (placed s).scanned (s.requires.levels_value _ (placed s).laid) _ _ _ (here p).at n }
 
 -- after a token's step
 module _ (c : After-token_at-step) where

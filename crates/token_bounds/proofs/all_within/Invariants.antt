@@ -1,4 +1,4 @@
-use Prim.Native.Nat.{◌-◌, ◌≤◌}
+use Prim.Native.Nat.{◌-◌}
 use mathlib.Core.Path.{◌≡◌}
 use lib.ListN.{length}
 use Rattle.block_tokens.specs.Tokens.{levels_from}
@@ -7,7 +7,4 @@ use Rattle.token_bounds.proofs.all_within.Given as given
 
 abbrev pub invariant-loop-k : given.invariant-loop-k
 invariant-loop-k l =
-    (l.k ≤ length l.scan) × (all_within (levels_from l.scan l.levels l.initial.k (length l.scan - l.initial.k)) ≡ all_within (levels_from l.scan l.levels l.k (length l.scan - l.k)))
-
-abbrev pub decreases-loop-k : given.decreases-loop-k
-decreases-loop-k l = length l.scan - l.k
+    all_within (levels_from l.scan l.levels l.fn.layout.covered (length l.scan - l.fn.layout.covered)) ≡ all_within (levels_from l.scan l.levels l.k (length l.scan - l.k))

@@ -2,6 +2,7 @@ use Prim.Native.Nat.{◌-◌, ◌*◌, ◌≤◌}
 use mathlib.Core.Path.{◌≡◌, sym, ◌∙◌}
 use native.Mathlib.Omega.{arith}
 use lib.ListN.{length}
+use Rattle.coding.proofs.Passed.{coded-in}
 use Rattle.laws.proofs.Tests.{failed, held}
 use Rattle.steps.proofs.Counting.{among-most}
 use Rattle.token_steps.specs.Steps.{Placed}
@@ -19,7 +20,7 @@ Start = Lts.Start Tie.the-claims Reads.Pre Reads.Post Tie.handed_clauses
 -- what is lent
 module _ (c : Start) where
   abbrev placed : Placed c.args.layout c.args.scan.now c.args.levels.now
-  placed = c.requires.coded.1
+  placed = c.requires.placed
 
   size : length c.args.scan.now ≡ 64 * c.args.layout.covered
   size = omega (arith, placed.laid.covered_is, placed.scanned.order.size)
@@ -29,39 +30,39 @@ module _ (c : Start) where
 
 pub all_small-requires : goal.all_small-requires
 all_small-requires c =
-    let p = placed c.before.before.before.before in
+    let p = placed c.before.before in
     omega (arith, p.scanned.long, p.laid.covered_is, p.laid.most)
 
 pub overflow_cast-count : goal.overflow_cast-count
-overflow_cast-count c = record { fits = omega (arith, count_most c.before.before.before.before.before.before) }
+overflow_cast-count c = record { fits = omega (arith, count_most c.before.before.before.before) }
 
 pub split_in-split-requires : goal.split_in-split-requires
-split_in-split-requires c = let s = c.before.before.before.before.before.before in
-    record { coded = s.requires.coded.0; context_bound = ((placed s).laid.count_most, omega (arith, count_most s)) }
+split_in-split-requires c = let s = c.before.before.before.before in
+    record { context_bound = ((placed s).laid.count_most, omega (arith, count_most s)) }
 
 pub returns-then-split-gt127 : goal.returns-then-split-gt127
 returns-then-split-gt127 c =
     let t = c.before.before.before in
     let a = t.before.before in
-    let s = a.before.before.before.before in
-    λ h laid scanned. small-refused s.requires.coded.0 h _ _ laid scanned (sym a.all_small.ensures ∙ t.if-all_small.true) _ s.requires.count_value _ t.split_in-split.ensures c.if-split-gt127.true
+    let s = a.before.before in
+    λ h laid scanned. small-refused (coded-in s.args.code.now) h _ _ laid scanned (sym a.all_small.ensures ∙ t.if-all_small.true) _ s.requires.count_value _ t.split_in-split.ensures c.if-split-gt127.true
 
 pub returns-else-split-gt127 : goal.returns-else-split-gt127
 returns-else-split-gt127 c =
     let t = c.before.before.before in
     let a = t.before.before in
-    let s = a.before.before.before.before in
-    λ h laid scanned. small-passes s.requires.coded.0 h _ _ laid scanned (sym a.all_small.ensures ∙ t.if-all_small.true) _ s.requires.count_value _ t.split_in-split.ensures c.if-split-gt127.false
+    let s = a.before.before in
+    λ h laid scanned. small-passes (coded-in s.args.code.now) h _ _ laid scanned (sym a.all_small.ensures ∙ t.if-all_small.true) _ s.requires.count_value _ t.split_in-split.ensures c.if-split-gt127.false
 
 pub all_within-requires : goal.all_within-requires
-all_within-requires c = placed c.before.before.before.before.before.before
+all_within-requires c = placed c.before.before.before.before
 
 pub returns-then-not-all_within : goal.returns-then-not-all_within
 returns-then-not-all_within c = λ h laid scanned. at24 _ h _ _ (failed (c.all_within.ensures h laid) (ap not c.if-not-all_within.true))
 
 pub all_coded-requires : goal.all_coded-requires
-all_coded-requires c = let s = c.before.before.before.before.before.before.before.before in
-    record { coded = s.requires.coded; levels_value = (λ h laid. held (c.all_within.ensures h laid) (ap not c.if-not-all_within.false)); count_value = s.requires.count_value }
+all_coded-requires c = let s = c.before.before.before.before.before.before in
+    record { placed = s.requires.placed; levels_value = (λ h laid. held (c.all_within.ensures h laid) (ap not c.if-not-all_within.false)); count_value = s.requires.count_value }
 
 pub returns-then-all_coded : goal.returns-then-all_coded
 returns-then-all_coded c =

@@ -1,27 +1,28 @@
-use mathlib.Core.Path.{sym, ◌∙◌}
-use native.Mathlib.Omega.{arith}
+use Rattle.std.proofs.Common.{◌≡◌, refl, sym, ◌∙◌, Err, arith}
 use Rattle.block_tokens.proofs.Passed.{covered-most, sized}
+use Rattle.refusals.proofs.Numbers.{number_positive}
 use Rattle.token_checks.proofs.Returns.{coding-refused, shape-refused, at11, none}
 use Rattle.token_checks.proofs.check_lent.Goals as goal
 
-pub returns-then-first-ne0 : goal.returns-then-first-ne0
-returns-then-first-ne0 c = coding-refused _ _ c.check_coding-first.ensures c.if-first-ne0.true
+pub returns-in_err-check_coding : goal.returns-in_err-check_coding
+returns-in_err-check_coding c =
+    let refusal = c.in_err-check_coding.field-0.0 in
+    let told : c.from_residual.result ≡ Err refusal = grind arith in
+    rw told (coding-refused _ _ c.in_err-check_coding.ensures (λ z. omega (arith, number_positive refusal, z)))
 
-pub returns-then-second-ne0 : goal.returns-then-second-ne0
-returns-then-second-ne0 c =
-    shape-refused _ _ c.check_coding-first.ensures c.if-first-ne0.false c.check_shape-second.ensures c.if-second-ne0.true
+pub returns-in_err-check_shape : goal.returns-in_err-check_shape
+returns-in_err-check_shape c =
+    let refusal = c.in_err-check_shape.field-0.0 in
+    let told : c.from_residual-in_err-check_shape.result ≡ Err refusal = grind arith in
+    rw told (shape-refused _ _ c.in_ok-check_coding.ensures refl c.in_err-check_shape.ensures (λ z. omega (arith, number_positive refusal, z)))
 
 pub each_once-requires : goal.each_once-requires
 each_once-requires c =
-    let s = sized _ _ _ (sym c.check_shape-second.ensures ∙ c.if-second-ne0.false) in
+    let s = sized _ _ _ (sym c.in_ok-check_shape.ensures) in
     omega (arith, s.scan_long, covered-most s.shaped)
 
-pub returns-then-each_once : goal.returns-then-each_once
-returns-then-each_once c =
-    let d = c.before.before.before in
-    none _ _ d.check_coding-first.ensures d.if-first-ne0.false d.check_shape-second.ensures d.if-second-ne0.false (sym c.each_once.ensures ∙ c.if-each_once.true)
+pub returns-then-not-each_once : goal.returns-then-not-each_once
+returns-then-not-each_once c = at11 _ _ c.in_ok-check_coding.ensures refl c.in_ok-check_shape.ensures refl (sym c.each_once.ensures ∙ c.if-not-each_once.true)
 
-pub returns-else-each_once : goal.returns-else-each_once
-returns-else-each_once c =
-    let d = c.before.before.before in
-    at11 _ _ d.check_coding-first.ensures d.if-first-ne0.false d.check_shape-second.ensures d.if-second-ne0.false (sym c.each_once.ensures ∙ c.if-each_once.false)
+pub returns : goal.returns
+returns c = none _ _ c.in_ok-check_coding.ensures refl c.in_ok-check_shape.ensures refl (sym c.each_once.ensures ∙ c.if-not-each_once.false)

@@ -6,7 +6,4 @@ use Rattle.scan.specs.Scan.{put}
 use Rattle.token_read.proofs.clear_from.Given as given
 
 abbrev pub invariant-loop-k : given.invariant-loop-k
-invariant-loop-k l = (l.from ≤ l.k) × ((l.k - l.from ≤ length l.scan - l.from) × (l.levels ≡ put l.scan [] l.from (l.k - l.from) l.initial.levels))
-
-abbrev pub decreases-loop-k : given.decreases-loop-k
-decreases-loop-k l = length l.scan - l.k
+invariant-loop-k l = (l.k - l.from ≤ length l.scan - l.from) × (l.levels ≡ put l.scan [] l.from (l.k - l.from) l.initial.levels)

@@ -15,8 +15,8 @@ zero_density_context-requires c = let p = c.requires.has_pair in (p.covers, p.co
 
 -- the context
 place : (z : After-zero_density_context)
-    → (let start = z.before.before.before.before.before in start.args.layout.offset + z.zero_density_context.result ≡ start.args.layout.offset + zero_density_context start.args.layout.covered start.args.owed start.args.k start.args.prev)
-place z = let start = z.before.before.before.before.before in ap (λ (n : ℕ). start.args.layout.offset + n) z.zero_density_context.ensures.0
+    → (let start = z.before.before.before in start.args.layout.offset + z.zero_density_context.result ≡ start.args.layout.offset + zero_density_context start.args.layout.covered start.args.owed start.args.k start.args.prev)
+place z = let start = z.before.before.before in ap (λ (n : ℕ). start.args.layout.offset + n) z.zero_density_context.ensures.0
 
 pub overflow_add-context : goal.overflow_add-context
 overflow_add-context c = record { fits = omega (arith, c.requires.has_pair.offset_most, c.zero_density_context.ensures.1) }
@@ -35,8 +35,8 @@ bounds-bits-i c = c.requires.has_pair.in_bits
 
 pub read_in-requires : goal.read_in-requires
 read_in-requires c = let z = c.before.before.before.before in
-    let start = z.before.before.before.before.before in
-    record { coded = start.requires.coded; context_bound = omega (arith, start.requires.has_pair.offset_most, z.zero_density_context.ensures.1); bits_value = rw (← place z) at start.requires.i_value }
+    let start = z.before.before.before in
+    record { context_bound = omega (arith, start.requires.has_pair.offset_most, z.zero_density_context.ensures.1); bits_value = rw (← place z) at start.requires.i_value }
 
 pub returns : goal.returns
 returns c = rw (place c.before.before.before.before.before) at c.read_in.ensures

@@ -4,15 +4,15 @@ use mathlib.Core.List.{List, []}
 use native.Mathlib.Omega.{arith}
 use lib.IntN.{ℤ}
 use lib.ListN.{length, length-map}
+use Rattle.coding.proofs.Passed.{coded-in}
 use Rattle.block.specs.declared.Shape.{Shape}
 use Rattle.scan.specs.Scan.{put}
 use Rattle.scan.proofs.Through.{put-length}
 use Rattle.block_tokens.specs.Tokens.{covered_by, block_tokens}
-use Rattle.block_tokens.specs.Code.{Code, code_of, symbol_in}
+use Rattle.block_tokens.specs.Code.{Code, contents, symbol_in}
 use Rattle.block_tokens.specs.Outcome.{read_as, read_result}
 use Rattle.block_tokens.specs.Passed.{Scanned}
 use Rattle.block_tokens.specs.Reading.{Reading, Levels, read_tokens}
-use Rattle.block_tokens.specs.Reading as Reading
 use Rattle.block_tokens.specs.declared.Reply.TheVariants.{Tokens, Refused}
 use Rattle.block_tokens.proofs.Accepted.{tokens-most}
 use Rattle.block_tokens.proofs.Passed.{codes-within, covered-most}
@@ -63,7 +63,7 @@ cleared {x} {symbols} {bits} {k} {now} h scan qs levels scanned d read =
 -- what is lent
 module _ (c : Start) where
   abbrev x : Code
-  x = code_of c.args.map.now c.args.configs.now
+  x = contents c.args.code.now
 
   abbrev shape : Shape
   shape = c.args.shape
@@ -77,13 +77,13 @@ module _ (c : Start) where
 -- with the layout
 module _ (c : After-layout_of-layout) where
   abbrev start : Start
-  start = c.before.before.before.before.before.before
+  start = c.before.before.before.before
 
   abbrev laid : LaidOut (shape start) c.layout_of-layout.result
   laid = c.layout_of-layout.ensures
 
 pub read_refusal-refusal-requires : goal.read_refusal-refusal-requires
-read_refusal-refusal-requires c = ((start c.before).requires.coded, record { shape = shape (start c.before); laid = laid c.before })
+read_refusal-refusal-requires c = record { shape = shape (start c.before); laid = laid c.before }
 
 pub returns-then-refusal-ne0 : goal.returns-then-refusal-ne0
 returns-then-refusal-ne0 c =
@@ -105,7 +105,7 @@ module _ (c : Else-refusal-ne0) where
   -- as many pairs as the block has tokens
   pairs-few : length begin.args.symbols.now ≤ 64513
   pairs-few =
-      let k = begin.requires.coded in
+      let k = coded-in begin.args.code.now in
       let most = covered-most begin.requires.shaped.0 in
       let r = read-writes (codes-within k.codes) (shape begin) most begin.args.symbols.now begin.args.bits.now ok.levels ok.read in
       let number : length begin.args.symbols.now ≡ length (block_tokens (shape begin) ok.levels) = sym (ap length r.same-symbols) ∙ length-map (block_tokens (shape begin) ok.levels) (symbol_in (x begin)) in
@@ -115,7 +115,7 @@ pub restore-from-requires : goal.restore-from-requires
 restore-from-requires c = let e = c.before.before in
     let l = laid_out e in
     let s = begin e in
-    record { coded = (s.requires.coded, record { shape = shape s; laid = laid l; scanned = scanned s }); accepted = λ h other. accepted _ h _ _ (sym e.if-refusal-ne0.false ∙ e.read_refusal-refusal.ensures h other) }
+    record { placed = record { shape = shape s; laid = laid l; scanned = scanned s }; accepted = λ h other. accepted _ h _ _ (sym e.if-refusal-ne0.false ∙ e.read_refusal-refusal.ensures h other) }
 
 -- once the levels with tokens stand there
 module _ (c : After-restore-from) where

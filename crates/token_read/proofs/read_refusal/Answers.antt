@@ -6,7 +6,7 @@ use lib.Dec.{leb}
 use lib.ListN.{length, get_or}
 use Rattle.block.specs.declared.Shape.{Shape}
 use Rattle.block_tokens.specs.Tokens.{covered_by, count_context, prev_by}
-use Rattle.block_tokens.specs.Code.{Code, code_of}
+use Rattle.block_tokens.specs.Code.{Code, contents}
 use Rattle.block_tokens.specs.Reading.{pair, splits_in, value_in}
 use Rattle.block_tokens.proofs.Counts.{nz-most}
 use Rattle.token_steps.specs.Steps.{LaidOut}
@@ -42,13 +42,13 @@ Start = Lts.Start Tie.the-claims Reads.Pre Reads.Post goal.the-invariant-loop-ow
 
 module _ (c : Start) where
   abbrev x : Code
-  x = code_of c.args.map.now c.args.configs.now
+  x = contents c.args.code.now
 
   abbrev shape : Shape
-  shape = c.requires.1.shape
+  shape = c.requires.shape
 
   abbrev laid : LaidOut shape c.args.layout
-  laid = c.requires.1.laid
+  laid = c.requires.laid
 
 pub returns-then-symbols-bits : goal.returns-then-symbols-bits
 returns-then-symbols-bits c = λ h laid. sym (unequal _ _ _ _ c.if-symbols-bits.true)
@@ -59,7 +59,7 @@ returns-then-symbols-eq0 c = λ h laid. sym (empty _ _ _ _ c.if-symbols-bits.fal
 -- there is a pair
 module _ (c : Else-symbols-eq0) where
   abbrev start : Start
-  start = c.before.before.before.before.before.before
+  start = c.before.before.before.before
 
   alike : length start.args.symbols.now ≡ length start.args.bits.now
   alike = c.if-symbols-bits.false
@@ -75,7 +75,7 @@ bounds-bits-0 c = let d = c.before.before.before in omega (arith, some d, alike 
 
 pub value_in-count-requires : goal.value_in-count-requires
 value_in-count-requires c = let s = start c.before.before.before in
-    record { coded = s.requires.0; context_bound = (laid s).count_most }
+    record { context_bound = (laid s).count_most }
 
 -- the count
 module _ (c : After-value_in-count) where
@@ -173,7 +173,6 @@ value_at-value-requires c = let e = c.before.before in
     let p = place e in
     let l = laid (begin p) in
     record {
-      coded = (begin p).requires.0;
       has_pair = record {
         covers = l.covers;
         offset_most = l.offset_most;

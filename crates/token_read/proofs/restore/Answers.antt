@@ -11,17 +11,16 @@ use mir.Val.{of_z, to_z}
 use mir.ValLaws.{to_z-of_z}
 use Rattle.block.specs.declared.Shape.{Shape}
 use Rattle.packing.specs.Signed.{unpack_signed}
-use Rattle.scan.specs.Scan.{put}
 use Rattle.scan.proofs.Through.{put-none, put-length}
 use Rattle.block_tokens.specs.Tokens.{covered_by, count_context, prev_by}
-use Rattle.block_tokens.specs.Code.{Code, code_of}
+use Rattle.block_tokens.specs.Code.{Code, contents}
 use Rattle.block_tokens.specs.Reading.{pair, value_in, Levels, read_tokens}
 use Rattle.block_tokens.proofs.Counts.{nz-most}
 use Rattle.token_steps.specs.Steps.{LaidOut, Placed}
 use Rattle.token_steps.specs.declared.Layout.{Layout}
 use Rattle.token_read.specs.Passes.{Accepted}
 use Rattle.token_read.proofs.Refusals.{context_is}
-use Rattle.token_read.proofs.Restoring.{Restores, zeros-on, inside, below, coefficient, splits, Level, level, Started, started, put_on, At}
+use Rattle.token_read.proofs.Restoring.{zeros-on, inside, below, coefficient, splits, Level, level, Started, started, put_on, At}
 use Rattle.token_read.proofs.restore.Lts
 use Rattle.token_read.proofs.restore.Reads
 use Rattle.token_read.proofs.restore.Tie
@@ -60,10 +59,10 @@ first {x} {scan} {symbols} {bits} {old} h laid qs e count prev ec ep =
 -- what is lent
 module _ (c : Start) where
   abbrev x : Code
-  x = code_of c.args.map.now c.args.configs.now
+  x = contents c.args.code.now
 
   abbrev placed : Placed c.args.layout c.args.scan.now c.args.levels.now
-  placed = c.requires.coded.1
+  placed = c.requires.placed
 
   abbrev shape : Shape
   shape = placed.shape
@@ -75,21 +74,21 @@ module _ (c : Start) where
   begun = started _ _ _ _ _ accepted.read
 
 pub bounds-symbols-0 : goal.bounds-symbols-0
-bounds-symbols-0 c = (begun c.before.before.before.before.before.before.before).some
+bounds-symbols-0 c = (begun c.before.before.before.before.before).some
 
 pub bounds-bits-0 : goal.bounds-bits-0
 bounds-bits-0 c =
-    let b = begun c.before.before.before.before.before.before.before.before in
+    let b = begun c.before.before.before.before.before.before in
     omega (arith, b.some, b.alike)
 
 pub value_in-count-requires : goal.value_in-count-requires
-value_in-count-requires c = let s = c.before.before.before.before.before.before.before.before in
-    record { coded = s.requires.coded.0; context_bound = (placed s).laid.count_most }
+value_in-count-requires c = let s = c.before.before.before.before.before.before in
+    record { context_bound = (placed s).laid.count_most }
 
 -- the count
 module _ (c : After-value_in-count) where
   abbrev start : Start
-  start = c.before.before.before.before.before.before.before.before
+  start = c.before.before.before.before.before.before
 
   counted : (h : Shape) → LaidOut h start.args.layout → (qs : List ℤ) → read_tokens (x start) h start.args.symbols.now start.args.bits.now ≡ Levels qs
       → c.value_in-count.result ≡ value_in (x start) (count_context h) (pair (get_or start.args.symbols.now 0 0) (get_or start.args.bits.now 0 0))
@@ -134,7 +133,6 @@ read_at-value-requires c = let p = c.before.before in
     let l = (placed s).laid in
     let pair-there = inside _ _ _ _ _ _ _ _ _ (here p).rest c.loop-owed-test.true in
     record {
-      coded = s.requires.coded.0;
       has_pair = record {
         covers = l.covers;
         offset_most = l.offset_most;

@@ -4,7 +4,7 @@ use mathlib.Core.List.{List}
 use lib.IntN.{ℤ}
 use lib.ListN.{length}
 use Rattle.block.specs.declared.Shape.{Shape}
-use Rattle.block_tokens.specs.Code.{code_of}
+use Rattle.block_tokens.specs.Code.{contents}
 use Rattle.block_tokens.specs.Reading.{Levels, read_tokens}
 use Rattle.token_steps.specs.Steps.{LaidOut}
 use Rattle.token_read.proofs.Restoring.{At}
@@ -12,8 +12,8 @@ use Rattle.token_read.proofs.restore.Given as given
 
 abbrev pub invariant-loop-owed : given.invariant-loop-owed
 invariant-loop-owed l =
-    (h : Shape) → LaidOut h l.layout → (qs : List ℤ) → read_tokens (code_of l.map l.configs) h l.symbols l.bits ≡ Levels qs
-    → At (code_of l.map l.configs) h l.scan l.symbols l.bits l.initial.levels qs l.levels l.k l.prev l.owed l.i
+    (h : Shape) → LaidOut h l.layout → (qs : List ℤ) → read_tokens (contents l.code) h l.symbols l.bits ≡ Levels qs
+    → At (contents l.code) h l.scan l.symbols l.bits l.initial.levels qs l.levels l.k l.prev l.owed l.i
 
 abbrev pub decreases-loop-owed : given.decreases-loop-owed
 decreases-loop-owed l = length l.scan - l.k

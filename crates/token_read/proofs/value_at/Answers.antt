@@ -24,13 +24,13 @@ bounds-bits-i c = c.requires.has_pair.in_bits
 
 pub value_in-requires : goal.value_in-requires
 value_in-requires c = let z = c.before.before.before.before in
-    let start = z.before.before.before.before.before in
-    record { coded = start.requires.coded; context_bound = omega (arith, start.requires.has_pair.offset_most, z.zero_density_context.ensures.1) }
+    let start = z.before.before.before in
+    record { context_bound = omega (arith, start.requires.has_pair.offset_most, z.zero_density_context.ensures.1) }
 
 pub returns : goal.returns
 returns c =
     let z = c.before.before.before.before.before in
-    let start = z.before.before.before.before.before in
+    let start = z.before.before.before in
     let same : start.args.layout.offset + z.zero_density_context.result ≡ start.args.layout.offset + zero_density_context start.args.layout.covered start.args.owed start.args.k start.args.prev =
     ap (λ (n : ℕ). start.args.layout.offset + n) z.zero_density_context.ensures.0
     in

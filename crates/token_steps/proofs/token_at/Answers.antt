@@ -48,18 +48,12 @@ packed : (c : After-pack_signed) → c.pack_signed.result ≡ pack_signed (level
 packed c = c.pack_signed.ensures ∙ ap pack_signed (back c.before.before.before)
 
 pub split_in-split-requires : goal.split_in-split-requires
-split_in-split-requires c = let start = c.before.before.before.before.before.before.before.before in
-    record {
-      coded = start.requires.coded;
-      context_bound = (
-        omega (arith, start.requires.has_token.offset_most, c.zero_density_context.ensures.1),
-        rw (packed c.before) (le_trans (packed-small _ start.requires.has_token.small) (lit≤ tt)),
-      );
-    }
+split_in-split-requires c = let start = c.before.before.before.before.before.before in
+    record { context_bound = (omega (arith, start.requires.has_token.offset_most, c.zero_density_context.ensures.1), rw (packed c.before) (le_trans (packed-small _ start.requires.has_token.small) (lit≤ tt))) }
 
 pub returns : goal.returns
 returns c =
-    let start = c.before.before.before.before.before.before.before.before.before.before in
+    let start = c.before.before.before.before.before.before.before.before in
     let density = c.zero_density_context.ensures in
     let split = rw (packed c.before.before.before) at c.split_in-split.ensures in
     record {

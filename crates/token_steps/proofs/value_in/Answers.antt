@@ -1,26 +1,20 @@
-use native.Mathlib.Omega.{arith}
-use Rattle.block_tokens.specs.Code.{code_of}
+use Rattle.coding.proofs.Passed.{coded-in}
+use Rattle.block_tokens.specs.Code.{contents}
 use Rattle.block_tokens.specs.Reading.{pair}
 use Rattle.token_steps.proofs.Splits.{in-configs, valid-at, valid-copy, value-copy}
 use Rattle.token_steps.proofs.value_in.Goals as goal
 
-pub bounds-map-context : goal.bounds-map-context
-bounds-map-context c = let pre = c.requires in rw pre.coded.codes.contexts pre.context_bound
-
-pub overflow_cast-cluster : goal.overflow_cast-cluster
-overflow_cast-cluster c = record { fits = omega (arith, c.shared_slice_known-3-1.given c.args.context) }
-
 pub config_of-requires : goal.config_of-requires
-config_of-requires c = let start = c.before.before.before.before in in-configs start.requires.coded start.args.context start.requires.context_bound
+config_of-requires c = let start = c.before.before in in-configs (coded-in start.args.code.now) start.args.context start.requires.context_bound
 
 pub uint_decode_with_config-requires : goal.uint_decode_with_config-requires
 uint_decode_with_config-requires c =
-    let start = c.before.before.before.before.before in
+    let start = c.before.before.before in
     let e = c.config_of.ensures in
-    valid-copy (code_of start.args.map.now start.args.configs.now) start.args.context _ _ _ e.split_exponent_value e.msb_in_token_value e.lsb_in_token_value (valid-at start.requires.coded start.args.context start.requires.context_bound)
+    valid-copy (contents start.args.code.now) start.args.context _ _ _ e.split_exponent_value e.msb_in_token_value e.lsb_in_token_value (valid-at (coded-in start.args.code.now) start.args.context start.requires.context_bound)
 
 pub returns : goal.returns
 returns c =
-    let start = c.before.before.before.before.before.before in
+    let start = c.before.before.before.before in
     let e = c.config_of.ensures in
-    value-copy (code_of start.args.map.now start.args.configs.now) start.args.context _ _ _ e.split_exponent_value e.msb_in_token_value e.lsb_in_token_value (pair start.args.symbol start.args.bits) _ c.uint_decode_with_config.ensures
+    value-copy (contents start.args.code.now) start.args.context _ _ _ e.split_exponent_value e.msb_in_token_value e.lsb_in_token_value (pair start.args.symbol start.args.bits) _ c.uint_decode_with_config.ensures

@@ -7,7 +7,7 @@ use lib.ListN.{length, drop, set, length-set}
 use Rattle.block.specs.declared.Shape.{Shape}
 use Rattle.steps.proofs.Counting.{among-most}
 use Rattle.block_tokens.specs.Tokens.{Token}
-use Rattle.block_tokens.specs.Code.{Code, code_of, symbol_in, extra_in, bits_in}
+use Rattle.block_tokens.specs.Code.{Code, contents, symbol_in, extra_in, bits_in}
 use Rattle.token_steps.specs.Steps.{Placed}
 use Rattle.token_steps.proofs.Walk.{Next, next, at_last, all_tokens, has-token, written_at, at-start, count-token}
 use Rattle.token_write.specs.Room.{RoomFor}
@@ -32,7 +32,7 @@ Start = Lts.Start Tie.the-claims Reads.Pre Reads.Post goal.the-invariant-loop-le
 -- what is lent
 module _ (c : Start) where
   abbrev x : Code
-  x = code_of c.args.map.now c.args.configs.now
+  x = contents c.args.code.now
 
   abbrev scan : List ℕ
   scan = c.args.scan.now
@@ -41,7 +41,7 @@ module _ (c : Start) where
   levels = c.args.levels.now
 
   abbrev placed : Placed c.args.layout scan levels
-  placed = c.requires.coded.1
+  placed = c.requires.placed
 
   abbrev shape : Shape
   shape = placed.shape
@@ -63,15 +63,15 @@ module _ (c : Start) where
   some-token = omega (arith, ap length (count-token x shape scan levels placed.laid placed.scanned _ c.requires.count_value))
 
 pub overflow_cast-count : goal.overflow_cast-count
-overflow_cast-count c = record { fits = omega (arith, count_most c.before.before.before.before.before.before.before.before) }
+overflow_cast-count c = record { fits = omega (arith, count_most c.before.before.before.before.before.before) }
 
 pub split_in-split-requires : goal.split_in-split-requires
-split_in-split-requires c = let s = c.before.before.before.before.before.before.before.before in
-    record { coded = s.requires.coded.0; context_bound = ((placed s).laid.count_most, omega (arith, count_most s)) }
+split_in-split-requires c = let s = c.before.before.before.before.before.before in
+    record { context_bound = ((placed s).laid.count_most, omega (arith, count_most s)) }
 
 -- once the count is split
 abbrev begun : After-struct_known-1 → Start
-begun c = c.before.before.before.before.before.before.before.before.before
+begun c = c.before.before.before.before.before.before.before
 
 pub overflow_cast-contexts : goal.overflow_cast-contexts
 overflow_cast-contexts c = record { fits = omega (arith, (placed (begun c.before)).laid.count_most) }
@@ -148,7 +148,7 @@ pub token_at-step-requires : goal.token_at-step-requires
 token_at-step-requires c = let p = c.before.before in
     let s = start p in
     let n = next _ _ _ _ _ _ (here p).at c.loop-left-test.true in
-    record { coded = s.requires.coded.0; has_token = has-token _ _ _ (placed s).laid (placed s).scanned (s.requires.levels_value _ (placed s).laid) _ _ _ (here p).at n }
+    record { has_token = has-token _ _ _ (placed s).laid (placed s).scanned (s.requires.levels_value _ (placed s).laid) _ _ _ (here p).at n }
 
 -- after a token's step
 module _ (c : After-struct_known-in-loop-left-1) where

@@ -1,4 +1,4 @@
-use Prim.Native.Nat.{ℕ, ◌-◌}
+use Prim.Native.Nat.{ℕ}
 use mathlib.Core.Path.{◌≡◌, refl, sym, ap, ◌∙◌}
 use mathlib.Core.Bool.{true}
 use mathlib.Core.List.{List}
@@ -8,7 +8,7 @@ use lib.ListN.{length}
 use Rattle.block.specs.declared.Shape.{Shape}
 use Rattle.laws.proofs.Tests.{failed, held}
 use Rattle.block_tokens.specs.Tokens.{block_tokens, coded_levels}
-use Rattle.block_tokens.specs.Code.{Code, code_of}
+use Rattle.block_tokens.specs.Code.{Code, contents}
 use Rattle.block_tokens.specs.Writing.{Outputs, outputs, all_within, room_for}
 use Rattle.block_tokens.specs.Passed.{Scanned}
 use Rattle.block_tokens.proofs.Accepted.{tokens-most, coded-length}
@@ -46,7 +46,7 @@ Start = Lts.Start Tie.the-claims Reads.Pre Reads.Post Tie.handed_clauses
 -- what is lent
 module _ (c : Start) where
   abbrev x : Code
-  x = code_of c.args.map.now c.args.configs.now
+  x = contents c.args.code.now
 
   abbrev shape : Shape
   shape = c.args.shape
@@ -63,7 +63,7 @@ module _ (c : Start) where
 -- with the layout
 module _ (c : After-layout_of-layout) where
   abbrev start : Start
-  start = c.before.before.before.before.before.before.before.before
+  start = c.before.before.before.before.before.before
 
   abbrev laid : LaidOut (shape start) c.layout_of-layout.result
   laid = c.layout_of-layout.ensures
@@ -77,7 +77,7 @@ nonzeros_from-count-requires c = let s = scanned (start c.before) in
 
 pub check_levels-refusal-requires : goal.check_levels-refusal-requires
 check_levels-refusal-requires c = let l = c.before.before in
-    record { coded = ((start l).requires.coded, placed l); count_value = c.nonzeros_from-count.ensures }
+    record { placed = (placed l); count_value = c.nonzeros_from-count.ensures }
 
 pub returns-then-refusal-ne0 : goal.returns-then-refusal-ne0
 returns-then-refusal-ne0 c =
@@ -123,7 +123,7 @@ write_all-n-requires c = let r = c.before.before.before.before.before in
     let e = checked r in
     let l = laid_out e in
     let s = begin e in
-    record { coded = (s.requires.coded, placed l); levels_value = λ h other. ap all_within (same_coded other (laid l) s.args.scan.now s.args.levels.now) ∙ (ok e).small; count_value = e.nonzeros_from-count.ensures; room_for = λ h other scanned. room_of _ _ _ _ _ (sym (r.room_for_all.ensures h other scanned) ∙ r.if-not-room_for_all.false) }
+    record { placed = (placed l); levels_value = λ h other. ap all_within (same_coded other (laid l) s.args.scan.now s.args.levels.now) ∙ (ok e).small; count_value = e.nonzeros_from-count.ensures; room_for = λ h other scanned. room_of _ _ _ _ _ (sym (r.room_for_all.ensures h other scanned) ∙ r.if-not-room_for_all.false) }
 
 -- after all is written
 abbrev written_out : After-slice_known-8-1 → After-write_all-n

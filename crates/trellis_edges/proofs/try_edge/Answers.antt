@@ -4,9 +4,10 @@ use Rattle.steps.proofs.Listed.{usable-level, usable-listed, listed_below}
 use Rattle.steps.specs.Place.{distortion_at}
 use Rattle.trellis_edges.proofs.Tried.{elsewhere-all, updated-elsewhere, updated-size, outside, dead, edge}
 use mathlib.Core.Path.{refl, sym, ap, ◌∙◌}
-use Prim.Native.Nat.{◌≤◌}
+use Prim.Native.Nat.{◌≤◌, ◌+◌}
 use native.Mathlib.Omega.{arith}
 use Rattle.trellis_edges.proofs.try_edge.Goals as goal
+use Rattle.trellis_edges.proofs.try_edge.Goals.{then-r-least-via-then-r-least, then-r-least-via-else-r-least+then-most-r}
 
 pub overflow_add-r : goal.overflow_add-r
 overflow_add-r c =
@@ -15,16 +16,16 @@ overflow_add-r c =
     record { fits = omega (arith, pre.n_le_most.0, pre.workable.left, covered-most pre.workable.covers) }
 
 pub returns-then-r-least : goal.returns-then-r-least
-returns-then-r-least c = let pre = c.requires in
+returns-then-r-least c =
+    let pre = c.requires in
     let usable = pre.workable.usable in
     let listed = pre.n_le_most.1 in
-    record { current_len_unchanged = refl; elsewhere = elsewhere-all _ _ _; tried_2 = outside pre.workable (listed_below usable _ listed) pre.tried (usable-listed usable _ listed) c.nonzero-nonzero.ensures refl (λ low high. absurd (omega (arith, c.if-r-least.true))) }
-
-pub returns-then-most-r : goal.returns-then-most-r
-returns-then-most-r c = let pre = c.requires in
-    let usable = pre.workable.usable in
-    let listed = pre.n_le_most.1 in
-    record { current_len_unchanged = refl; elsewhere = elsewhere-all _ _ _; tried_2 = outside pre.workable (listed_below usable _ listed) pre.tried (usable-listed usable _ listed) c.nonzero-nonzero.ensures refl (λ low high. absurd (omega (arith, c.if-most-r.true))) }
+    let out : c.args.least ≤ c.args.n + c.nonzero-nonzero.result → c.args.n + c.nonzero-nonzero.result ≤ c.args.most → ⊥ =
+    elim c.then-r-least.branch [
+      | then-r-least-via-then-r-least w ↦ λ low high. omega (arith, w.if-r-least.true, low)
+      | then-r-least-via-else-r-least+then-most-r w ↦ λ low high. omega (arith, w.if-most-r.true, high)
+    ] in
+    record { current_len_unchanged = refl; elsewhere = elsewhere-all _ _ _; tried_after = outside pre.workable (listed_below usable _ listed) pre.tried (usable-listed usable _ listed) c.nonzero-nonzero.ensures refl out }
 
 pub tail_at-tail-requires : goal.tail_at-tail-requires
 tail_at-tail-requires c =
@@ -32,10 +33,9 @@ tail_at-tail-requires c =
     (work.starts, (work.room, rw c.nonzero-nonzero.ensures (nz-le _)))
 
 pub local_pair-local-requires : goal.local_pair-local-requires
-local_pair-local-requires c = let start = c.before.before.before.before.before.before.before.before.before.before.before.before.before.before.before.before.before in
-    let usable = start.requires.workable.usable in
-    let listed = start.requires.n_le_most.1 in
-    record { ready_value = start.requires.workable.priced; context_bound = c.context-context.ensures.1; t = usable-level usable _ listed; distortion_value = start.requires.each.at _ (listed_below usable _ listed) ∙ ap (distortion_at start.args.place) (sym (usable-listed usable _ listed)) }
+local_pair-local-requires c = let usable = c.requires.workable.usable in
+    let listed = c.requires.n_le_most.1 in
+    record { context_bound = c.context-context.ensures.1; t = usable-level usable _ listed; distortion_value = c.requires.each.at _ (listed_below usable _ listed) ∙ ap (distortion_at c.args.place) (sym (usable-listed usable _ listed)) }
 
 pub overflow_cast-j : goal.overflow_cast-j
 overflow_cast-j c = let pre = c.requires in record { fits = omega (arith, pre.n_le_most.1, pre.workable.usable.few) }
@@ -60,7 +60,7 @@ returns-then-tail-infinity c = let pre = c.requires in
     record {
       current_len_unchanged = updated-size updated;
       elsewhere = updated-elsewhere _ (omega (arith, low, high)) updated;
-      tried_2 = edge pre.workable (listed_below usable _ listed) pre.tried (usable-listed usable _ listed) c.nonzero-nonzero.ensures refl low high c.tail_at-tail.ensures c.context-context.ensures.0 local.0 local.1
+      tried_after = edge pre.workable (listed_below usable _ listed) pre.tried (usable-listed usable _ listed) c.nonzero-nonzero.ensures refl low high c.tail_at-tail.ensures c.context-context.ensures.0 local.0 local.1
           (omega (arith, rooms.1.0, low, high)) (omega (arith, rooms.1.1, low, high)) updated;
     }
 
@@ -68,4 +68,4 @@ pub returns-else-tail-infinity : goal.returns-else-tail-infinity
 returns-else-tail-infinity c = let pre = c.requires in
     let usable = pre.workable.usable in
     let listed = pre.n_le_most.1 in
-    record { current_len_unchanged = refl; elsewhere = elsewhere-all _ _ _; tried_2 = dead pre.workable (listed_below usable _ listed) pre.tried (usable-listed usable _ listed) c.nonzero-nonzero.ensures refl c.tail_at-tail.ensures c.infinity.ensures c.if-tail-infinity.false }
+    record { current_len_unchanged = refl; elsewhere = elsewhere-all _ _ _; tried_after = dead pre.workable (listed_below usable _ listed) pre.tried (usable-listed usable _ listed) c.nonzero-nonzero.ensures refl c.tail_at-tail.ensures c.infinity.ensures c.if-tail-infinity.false }

@@ -4,7 +4,7 @@ use Rattle.ac_context.proofs.Bounds.{covered-most}
 use Rattle.steps.proofs.Listed.{usable-back, usable-level}
 use native.Mathlib.Omega.{arith}
 use mathlib.Core.Path.{◌≡◌, refl, sym, ◌∙◌}
-use Prim.Native.Nat.{◌+◌, ◌-◌}
+use Prim.Native.Nat.{◌+◌}
 use Rattle.half_bytes.proofs.Laws.{unpacked-size}
 use Rattle.trellis_sole.proofs.fill_sole.Goals as goal
 
@@ -18,7 +18,7 @@ loop-r-init c = so-far-none _ _ _ _ _ _ _ _ _ _ c.requires.least_le_most.0
 
 pub token_of-token-requires : goal.token_of-token-requires
 token_of-token-requires c = let pre = c.requires in
-    record { ready_value = pre.workable.priced; context_bound = c.context-context.ensures.1; t = usable-level pre.workable.usable 0 (count-first refl) }
+    record { context_bound = c.context-context.ensures.1; t = usable-level pre.workable.usable 0 (count-first refl) }
 
 pub run_end-end-requires : goal.run_end-end-requires
 run_end-end-requires c = record { coding = coding-of c.requires.workable; from_le_most = c.loop-r-test.true }
@@ -61,7 +61,7 @@ pub shape_of-choices : goal.shape_of-choices
 shape_of-choices c = unpacked-size _ _ c.loop-r.invariant.elsewhere.size
 
 pub returns : goal.returns
-returns c = let start = c.before.before.before.before.before.before.before.before.before.before.before.before in
+returns c = let start = c.before.before.before.before.before.before.before.before in
     let inv = c.loop-r.invariant in
     let last : c.loop-r.r ≡ start.args.most + 1 = omega (arith, inv.upto, c.loop-r-test.false) in
     let one = listed-one start.requires.workable.usable refl in

@@ -1,5 +1,5 @@
 use mathlib.Core.Path.{refl}
-use Prim.Native.Nat.{◌-◌, zero-le}
+use Prim.Native.Nat.{zero-le}
 use native.Mathlib.Omega.{arith}
 use Rattle.beam.proofs.Ends.{sofar-start, sofar-more, sofar-end}
 use Rattle.beam.proofs.ending.best_path.Goals as goal

@@ -2,7 +2,7 @@ use mathlib.Core.Path.{◌≡◌}
 use Prim.Native.Nat.{◌-◌, ◌≤◌}
 use Rattle.beam_paths.specs.Held.{PathsFor}
 use Rattle.block.specs.Block.{Block}
-use Rattle.prices.specs.Book.{book_in}
+use Rattle.prices.specs.Contents.{contents}
 use Rattle.steps.specs.Plan.{Planned}
 use Rattle.beam.specs.Beam.{problem}
 use Rattle.beam.specs.Held.{paths}
@@ -11,7 +11,7 @@ use Rattle.beam.proofs.ending.best_path.Given as given
 
 abbrev pub invariant-loop-j : given.invariant-loop-j
 invariant-loop-j l =
-    (l.j-end ≡ l.kept.count) × ((l.j ≤ l.j-end) × ((b : Block) → Planned b l.plan → PathsFor (paths l.plan.window (book_in l.map l.configs l.symbols l.ready) b 0) l.kept → Sofar (problem l.plan.window (book_in l.map l.configs l.symbols l.ready) b) (paths l.plan.window (book_in l.map l.configs l.symbols l.ready) b 0) l.j l.best))
+    (l.j-end ≡ l.kept.count) × ((l.j ≤ l.j-end) × ((b : Block) → Planned b l.plan → PathsFor (paths l.plan.window (contents l.book) b 0) l.kept → Sofar (problem l.plan.window (contents l.book) b) (paths l.plan.window (contents l.book) b 0) l.j l.best))
 
 abbrev pub decreases-loop-j : given.decreases-loop-j
 decreases-loop-j l =

@@ -1,4 +1,4 @@
-use Prim.Native.Nat.{◌-◌, zero-le}
+use Prim.Native.Nat.{zero-le}
 use native.Mathlib.Omega.{arith}
 use Rattle.beam.proofs.Storing.{stored-none, stored_more, stored-all}
 use Rattle.beam.proofs.positions.store.Goals as goal

@@ -1,5 +1,5 @@
 use mathlib.Core.Path.{◌≡◌, refl, ap}
-use Prim.Native.Nat.{ℕ, ◌+◌, ◌-◌, ◌<◌, zero-le}
+use Prim.Native.Nat.{ℕ, ◌+◌, ◌<◌, zero-le}
 use native.Mathlib.Omega.{arith}
 use Rattle.search_checks.proofs.Checked.{covered-few, position-few, window-few}
 use Rattle.search_checks.proofs.Writing.{written-length, all-written, readable-now}

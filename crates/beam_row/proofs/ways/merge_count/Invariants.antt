@@ -3,18 +3,13 @@ use Rattle.beam_paths.specs.Held.{PathsFor}
 use Rattle.beam_row.specs.Held.{spot_of, Stands}
 use Rattle.beam_row.specs.Entries.{gathered, BothOf}
 use Rattle.least_cost.specs.Position.{Position}
-use Rattle.prices.specs.Book.{book_in}
+use Rattle.prices.specs.Contents.{contents}
 use mathlib.Core.List.{List}
 use mathlib.Core.Path.{◌≡◌}
 use lib.ListN.{take}
-use Prim.Native.Nat.{◌-◌, ◌≤◌}
 use Rattle.beam_row.proofs.ways.merge_count.Given as given
 
 abbrev pub invariant-loop-j : given.invariant-loop-j
 invariant-loop-j l =
-    (l.j ≤ l.paths)
-    × ((l.entry.remaining ≡ l.n)
-    × ((q : Position) (xs : List Path) → Stands (book_in l.map l.configs l.symbols l.ready) (spot_of l.place l.count l.levels) q → PathsFor xs (gathered l.paths l.remaining l.costs) → BothOf q xs (ways (take l.j xs) q.candidates) l.entry))
-
-abbrev pub decreases-loop-j : given.decreases-loop-j
-decreases-loop-j l = l.paths - l.j
+    (l.entry.remaining ≡ l.n)
+    × ((q : Position) (xs : List Path) → Stands (contents l.book) (spot_of l.place l.count l.levels) q → PathsFor xs (gathered l.paths l.remaining l.costs) → BothOf q xs (ways (take l.j xs) q.candidates) l.entry)

@@ -1,9 +1,10 @@
-use lib.ListN.{length-take}
-use native.Mathlib.Omega.{arith}
+use mathlib.Core.Path.{◌∙◌}
+use mathlib.Core.List.{List, ◌++◌}
+use Prim.Native.Nat.{ℕ}
+use lib.ListN.{drop}
+use Rattle.std.proofs.Common.{ap}
+use Rattle.block_file.proofs.Fill.{copied}
 use Rattle.block_file.proofs.load.take_bytes.Goals as goal
 
-pub slice_bounds-load_bytes-end-2 : goal.slice_bounds-load_bytes-end-2
-slice_bounds-load_bytes-end-2 c = simp length-take (omega arith)
-
-pub load_bytes-requires : goal.load_bytes-requires
-load_bytes-requires c = simp length-take (omega arith)
+pub returns : goal.returns
+returns c = ap (λ (front : List ℕ). front ++ drop c.args.list.count c.args.out.now) (c.copy_from_slice.ensures.after ∙ copied c.args.list.start c.args.list.count c.args.bytes.now c.requires.0)

@@ -1,9 +1,9 @@
-use lib.ListN.{length-take}
-use native.Mathlib.Omega.{arith}
+use Rattle.std.proofs.Common.{arith}
+use Rattle.block_file.proofs.Fill.{fill_none, fill_more}
 use Rattle.block_file.proofs.load.take_floats.Goals as goal
 
-pub slice_bounds-load_floats-end-2 : goal.slice_bounds-load_floats-end-2
-slice_bounds-load_floats-end-2 c = simp length-take (omega arith)
+pub loop-i-init : goal.loop-i-init
+loop-i-init c = fill_none _ _
 
-pub load_floats-requires : goal.load_floats-requires
-load_floats-requires c = simp length-take (omega arith)
+pub loop-i-preserved : goal.loop-i-preserved
+loop-i-preserved c = fill_more _ _ _ (omega (arith, c.requires.1, c.loop-i-test.true)) c.float_at.ensures c.loop-i.invariant

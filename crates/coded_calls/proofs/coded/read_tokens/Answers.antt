@@ -1,52 +1,31 @@
-use mathlib.Core.Path.{sym, ◌∙◌}
-use mathlib.Core.List.{List}
-use lib.IntN.{ℤ}
+use Rattle.std.proofs.Common.{refl, sym, ◌∙◌, arith}
 use Rattle.block_tokens.proofs.Passed.{passed}
 use Rattle.block_tokens.proofs.Promises.{read-promise}
-use Rattle.block_tokens.specs.Outcome.{Given, given_of}
-use Rattle.block_tokens.specs.Passed.{Passed}
-use Rattle.coded_calls.proofs.Settled.{coded, read-refused, read}
-use Rattle.coded_calls.proofs.coded.read_tokens.Lts
-use Rattle.coded_calls.proofs.coded.read_tokens.Reads
-use Rattle.coded_calls.proofs.coded.read_tokens.Tie
+use Rattle.block_tokens.specs.Outcome.{given_of}
+use Rattle.refusals.proofs.Numbers.{number_positive}
+use Rattle.coded_calls.proofs.Settled.{read-refused, read}
 use Rattle.coded_calls.proofs.coded.read_tokens.Goals as goal
 
-abbrev After-check_lent-refusal : Type 0
-After-check_lent-refusal = Lts.After-check_lent Tie.the-claims Reads.Pre Reads.Post Tie.handed_clauses
+pub returns-in-Err : goal.returns-in-Err
+returns-in-Err c =
+    let a = c.args in
+    let g = given_of a.clusters a.map.now a.configs.now a.shape a.scan.now in
+    let number = c.number.ensures ∙ c.in-Err.ensures in
+    read-promise g _ _ a.levels.now _ _ (read-refused g a.levels.now number (λ none. omega (arith, number_positive c.in-Err.refusal, c.number.ensures, none)) a.symbols.now a.bits.now)
 
-abbrev Else-refusal-ne0 : Type 0
-Else-refusal-ne0 = Lts.Else1 Tie.the-claims Reads.Pre Reads.Post Tie.handed_clauses
-
-abbrev Start : Type 0
-Start = Lts.Start Tie.the-claims Reads.Pre Reads.Post Tie.handed_clauses
-
--- what is lent
-module _ (c : Start) where
-  abbrev given : Given
-  given = given_of c.args.clusters c.args.map.now c.args.configs.now c.args.shape c.args.scan.now
-
-  abbrev levels : List ℤ
-  levels = c.args.levels.now
-
-abbrev start : After-check_lent-refusal → Start
-start c = c.before.before.before.before.before.before
-
-pub returns-then-refusal-ne0 : goal.returns-then-refusal-ne0
-returns-then-refusal-ne0 c =
-    let s = start c.before.before in
-    read-promise (given s) _ _ (levels s) _ _ (read-refused (given s) (levels s) c.check_lent-refusal.ensures c.if-refusal-ne0.true s.args.symbols.now s.args.bits.now)
-
--- once it has passed
-known : (c : Else-refusal-ne0) → Passed (given (start c.before)) (levels (start c.before))
-known c = passed _ _ (sym c.check_lent-refusal.ensures ∙ c.if-refusal-ne0.false)
+pub invariant_of-code : goal.invariant_of-code
+invariant_of-code c =
+    let a = c.args in
+    record { codes = (passed (given_of a.clusters a.map.now a.configs.now a.shape a.scan.now) a.levels.now (sym c.in-Ok.ensures)).codes }
 
 pub read_coded-requires : goal.read_coded-requires
-read_coded-requires c = let k = known c.before.before in
-    record { coded = coded k; shaped = (k.shaped, k.scanned) }
+read_coded-requires c =
+    let a = c.args in
+    let k = passed (given_of a.clusters a.map.now a.configs.now a.shape a.scan.now) a.levels.now (sym c.in-Ok.ensures) in
+    record { shaped = (k.shaped, k.scanned) }
 
-pub returns : goal.returns
-returns c =
-    let w = c.before.before in
-    let e = w.before.before in
-    let s = start e.before in
-    read-promise (given s) _ _ (levels s) _ _ (read (given s) (levels s) e.check_lent-refusal.ensures e.if-refusal-ne0.false s.args.symbols.now s.args.bits.now _ w.read_coded.ensures)
+pub returns-in-Ok : goal.returns-in-Ok
+returns-in-Ok c =
+    let a = c.args in
+    let g = given_of a.clusters a.map.now a.configs.now a.shape a.scan.now in
+    read-promise g _ _ a.levels.now _ _ (read g a.levels.now c.in-Ok.ensures refl a.symbols.now a.bits.now _ c.read_coded.ensures)

@@ -7,7 +7,7 @@ use native.Mathlib.Omega.{arith}
 use Rattle.greedy.proofs.pass.choice.Goals as goal
 
 pub offer-offer-requires : goal.offer-offer-requires
-offer-offer-requires c = let start = c.before.before.before.before.before.before.before.before.before in
+offer-offer-requires c = let start = c.before in
     let pre = start.requires in
     let fitting = pre.fitting in
     let ok = pre.ready in
@@ -16,7 +16,7 @@ offer-offer-requires c = let start = c.before.before.before.before.before.before
     record { readable = readable-at fitting ok _ here (omega arith); i_bound = omega (arith, fitting.window, fitting.most) }
 
 pub returns-then-stays : goal.returns-then-stays
-returns-then-stays c = let start = c.before.before.before.before.before.before.before.before.before.before.before.before.before in
+returns-then-stays c = let start = c.before.before.before.before.before in
     let pre = start.requires in
     let fitting = pre.fitting in
     let ok = pre.ready in
@@ -35,7 +35,7 @@ returns-then-stays c = let start = c.before.before.before.before.before.before.b
 
 pub place-place-requires : goal.place-place-requires
 place-place-requires c =
-    let start = c.before.before.before.before.before.before.before.before.before.before.before.before.before in
+    let start = c.before.before.before.before.before.before in
     let pre = start.requires in
     let fitting = pre.fitting in
     let ok = pre.ready in
@@ -46,7 +46,7 @@ place-place-requires c =
 
 pub front-front-requires : goal.front-front-requires
 front-front-requires c =
-    let start = c.before.before.before.before.before.before.before.before.before.before.before.before.before.before in
+    let start = c.before.before.before.before.before.before.before.before in
     let pre = start.requires in
     let fitting = pre.fitting in
     let ok = pre.ready in
@@ -55,18 +55,18 @@ front-front-requires c =
     windowed-of fitting ok _ here (omega arith)
 
 pub run_bits-run-requires : goal.run_bits-run-requires
-run_bits-run-requires c = let start = c.before.before.before.before.before.before.before.before.before.before.before.before.before.before.before in
+run_bits-run-requires c = let start = c.before.before.before.before.before.before.before.before.before.before in
     let pre = start.requires in
     let fitting = pre.fitting in
     let ok = pre.ready in
     let here = pre.i_lt_length in
     let counts = pre.later_value in
     let inside : start.args.plan.covered + start.args.i < 64 * start.args.plan.covered = omega (arith, fitting.window) in
-    record { ready_value = pre.ready_value; coded = pre.coded; windowed = windowed-of fitting ok _ here (omega arith); i_bound = inside }
+    record { coded = pre.coded; windowed = windowed-of fitting ok _ here (omega arith); i_bound = inside }
 
 pub overflow_sub-around : goal.overflow_sub-around
 overflow_sub-around c =
-    let start = c.before.before.before.before.before.before.before.before.before.before.before.before.before.before.before.before.before.before in
+    let start = c.before.before.before.before.before.before.before.before.before.before.before.before.before in
     let pre = start.requires in
     let fitting = pre.fitting in
     let ok = pre.ready in
@@ -79,7 +79,7 @@ overflow_sub-around c =
     (others-few _ _ _ _ inside counts.1 (c.nonzero.ensures ∙ ap nz back)).0
 
 pub cheapest-requires : goal.cheapest-requires
-cheapest-requires c = let start = c.before.before.before.before.before.before.before.before.before.before.before.before.before.before.before.before.before.before.before in
+cheapest-requires c = let start = c.before.before.before.before.before.before.before.before.before.before.before.before.before.before in
     let pre = start.requires in
     let fitting = pre.fitting in
     let ok = pre.ready in
@@ -89,10 +89,10 @@ cheapest-requires c = let start = c.before.before.before.before.before.before.be
     let reads = readable-at fitting ok _ here (omega arith) in
     let level = c.offer-offer.ensures.usable.1 in
     let back = handed-back _ c.offer-offer.result.level level reads.level in
-    record { ready_value = pre.ready_value; coded = pre.coded; i_bound = (later-few _ _ _ _ inside counts.0, ((others-few _ _ _ _ inside counts.1 (c.nonzero.ensures ∙ ap nz back)).1, c.front-front.ensures.upper_bound)); usable = c.offer-offer.ensures.usable.0; t = handed-level _ c.offer-offer.result.level level reads.level }
+    record { coded = pre.coded; i_bound = (later-few _ _ _ _ inside counts.0, ((others-few _ _ _ _ inside counts.1 (c.nonzero.ensures ∙ ap nz back)).1, c.front-front.ensures.upper_bound)); usable = c.offer-offer.ensures.usable.0; t = handed-level _ c.offer-offer.result.level level reads.level }
 
 pub returns : goal.returns
-returns c = let start = c.before.before.before.before.before.before.before.before.before.before.before.before.before.before.before.before.before.before.before.before in
+returns c = let start = c.before.before.before.before.before.before.before.before.before.before.before.before.before.before in
     let pre = start.requires in
     let fitting = pre.fitting in
     let ok = pre.ready in
@@ -110,8 +110,8 @@ returns c = let start = c.before.before.before.before.before.before.before.befor
           let later = later-is lists.scan_is lists.levels_is w _ counts.0 in
           let others = others-is lists.scan_is lists.levels_is w _ inside counts.0 counts.1 (c.nonzero.ensures ∙ ap nz back) in
           let place = c.place-place.ensures b w offered.ideal_is current in
-          passed_on _ _ c.cheapest.ensures.t_2
+          passed_on _ _ c.cheapest.ensures.level_kept
           (chosen-least _ offered usable current later c.stays.ensures c.if-stays.false others (c.front-front.ensures.value b lists.scan_is lists.levels_is w.covered_is)
           (c.run_bits-run.ensures b lists.scan_is lists.levels_is w later) (c.cheapest.ensures.value b w place));
-      t = passed-level c.cheapest.result c.cheapest.ensures.t_2;
+      t = passed-level c.cheapest.result c.cheapest.ensures.level_kept;
     }

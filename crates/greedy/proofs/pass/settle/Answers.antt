@@ -1,31 +1,22 @@
 use Rattle.greedy.proofs.Settling.{scan-of, so-far-none, next-ready, next-below, next-later, so_far_more, so-far-all}
-use mathlib.Core.Path.{sym, ◌∙◌}
-use native.Mathlib.Omega.{arith}
 use Rattle.greedy.proofs.pass.settle.Goals as goal
 
 pub counts_of-counts-requires : goal.counts_of-counts-requires
-counts_of-counts-requires c = let start = c.before.before.before.before.before.before.before.before.before in
-    let pre = start.requires in
+counts_of-counts-requires c =
+    let pre = c.requires in
     record { perm = (scan-of pre.ready, pre.ready.levelled); window_bound = (pre.fitting.window, pre.fitting.most) }
 
 pub loop-i-init : goal.loop-i-init
 loop-i-init c =
-    let start = c.before.before.before.before.before.before.before.before.before.before in
-    let pre = start.requires in
+    let pre = c.requires in
     so-far-none _ pre.fitting pre.ready c.counts_of-counts.ensures.0 c.counts_of-counts.ensures.1
 
 pub step-counts-requires : goal.step-counts-requires
-step-counts-requires c = let start = c.before.before.before.before.before.before.before.before.before.before.before.before.before in
-    let pre = start.requires in
-    let fitting = pre.fitting in
-    let ok = pre.ready in
+step-counts-requires c =
+    let pre = c.requires in
     let inv = c.loop-i.invariant in
     let some = c.loop-i-test.true in
-    record { ready_value = pre.ready_value; coded = pre.coded; fitting = fitting; ready = next-ready _ some inv; i_lt_length = next-below _ some inv; later_value = (next-later _ some inv, inv.total) }
-
-pub loop-i-smaller : goal.loop-i-smaller
-loop-i-smaller c =
-    omega (arith, c.loop-i-test.true)
+    record { coded = pre.coded; fitting = pre.fitting; ready = next-ready _ some inv; i_lt_length = next-below _ some inv; later_value = (next-later _ some inv, inv.total) }
 
 pub loop-i-preserved : goal.loop-i-preserved
 loop-i-preserved c =
@@ -33,14 +24,6 @@ loop-i-preserved c =
     let some = c.loop-i-test.true in
     let done = c.step-counts.ensures in
     so_far_more _ some inv done.levels_after done.ready_2 done.later_value_2.0 done.later_value_2.1
-
-pub shape_of-levels : goal.shape_of-levels
-shape_of-levels c =
-    let start = c.before.before.before.before.before.before.before.before.before.before.before.before in
-    let pre = start.requires in
-    let fitting = pre.fitting in
-    let ok = pre.ready in
-    c.loop-i.invariant.ready.levelled ∙ sym ok.levelled
 
 pub returns : goal.returns
 returns c = let inv = c.loop-i.invariant in

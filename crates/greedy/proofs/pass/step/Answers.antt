@@ -8,7 +8,7 @@ use Rattle.greedy.proofs.pass.step.Goals as goal
 
 pub overflow_add-plan : goal.overflow_add-plan
 overflow_add-plan c =
-    let start = c.before.before.before.before.before.before.before.before.before.before.before in
+    let start = c.before.before.before.before in
     let pre = start.requires in
     let fitting = pre.fitting in
     let ok = pre.ready in
@@ -17,7 +17,7 @@ overflow_add-plan c =
     record { fits = omega (arith, fitting.window, fitting.most) }
 
 pub write-before-requires : goal.write-before-requires
-write-before-requires c = let start = c.before.before.before.before.before.before.before.before.before.before.before in
+write-before-requires c = let start = c.before.before.before.before in
     let pre = start.requires in
     let fitting = pre.fitting in
     let ok = pre.ready in
@@ -28,7 +28,7 @@ write-before-requires c = let start = c.before.before.before.before.before.befor
 
 pub overflow_add-result : goal.overflow_add-result
 overflow_add-result c =
-    let start = c.before.before.before.before.before.before.before.before.before.before.before.before.before.before.before in
+    let start = c.before.before.before.before.before.before.before.before in
     let pre = start.requires in
     let fitting = pre.fitting in
     let ok = pre.ready in
@@ -40,7 +40,7 @@ overflow_add-result c =
 
 pub overflow_sub-result : goal.overflow_sub-result
 overflow_sub-result c =
-    let start = c.before.before.before.before.before.before.before.before.before.before.before.before.before.before.before.before in
+    let start = c.before.before.before.before.before.before.before.before.before in
     let pre = start.requires in
     let fitting = pre.fitting in
     let ok = pre.ready in
@@ -51,7 +51,7 @@ overflow_sub-result c =
 
 pub overflow_add-result-2 : goal.overflow_add-result-2
 overflow_add-result-2 c =
-    let start = c.before.before.before.before.before.before.before.before.before.before.before.before.before.before.before.before in
+    let start = c.before.before.before.before.before.before.before.before.before in
     let pre = start.requires in
     let fitting = pre.fitting in
     let ok = pre.ready in
@@ -66,7 +66,7 @@ shape_of-levels c =
     rw c.write-before.ensures.levels_after (simp length-set)
 
 pub returns : goal.returns
-returns c = let start = c.before.before.before.before.before.before.before.before.before.before.before.before.before.before.before.before in
+returns c = let start = c.before.before.before.before.before.before.before.before.before in
     let pre = start.requires in
     let fitting = pre.fitting in
     let ok = pre.ready in

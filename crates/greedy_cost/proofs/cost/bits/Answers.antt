@@ -14,23 +14,21 @@ returns-then-remaining-eq0 c =
 
 pub overflow_add-plan : goal.overflow_add-plan
 overflow_add-plan c =
-    let start = c.before.before.before.before.before.before.before in
+    let start = c.before.before in
     record { fits = omega (arith, start.requires.i_bound.0, covered-most start.requires.coded.covers) }
 
 pub token_bits-token-requires : goal.token_bits-token-requires
-token_bits-token-requires c = let start = c.before.before.before.before.before.before in
-    record { ready_value = start.requires.ready_value; coded = start.requires.coded; coefficient = record { some = omega (arith, c.if-remaining-eq0.false); left = start.requires.i_bound.0; coded = omega arith; flag = omega (arith, start.requires.i_bound.1) }; t = rw (level-back _ start.requires.t) start.requires.t }
+token_bits-token-requires c = let start = c.before.before in
+    record { coded = start.requires.coded; coefficient = record { some = omega (arith, c.if-remaining-eq0.false); left = start.requires.i_bound.0; coded = omega arith; flag = omega (arith, start.requires.i_bound.1) }; t = rw (level-back _ start.requires.t) start.requires.t }
 
 pub returns-then-level-eq0 : goal.returns-then-level-eq0
 returns-then-level-eq0 c =
     λ b w.
-    let else = c.before.before.before.before in
-    let start = else.before.before.before.before.before in
-    bits-zero _ b _ _ _ _ _ _ _ _ w (level-back _ start.requires.t) else.if-remaining-eq0.false (c.token_bits-token.ensures b w) (zero-nz _ start.ranges.level c.if-level-eq0.true)
+    let start = c.before.before.before.before in
+    bits-zero _ b _ _ _ _ _ _ _ _ w (level-back _ start.requires.t) c.if-remaining-eq0.false (c.token_bits-token.ensures b w) (zero-nz _ start.ranges.level c.if-level-eq0.true)
 
 pub returns : goal.returns
 returns c =
     λ b w.
-    let else = c.before.before.before.before in
-    let start = else.before.before.before.before.before in
-    bits-nonzero _ b _ _ _ _ _ _ _ _ w (level-back _ start.requires.t) else.if-remaining-eq0.false (c.token_bits-token.ensures b w) (other-nz _ c.if-level-eq0.false)
+    let start = c.before.before.before.before in
+    bits-nonzero _ b _ _ _ _ _ _ _ _ w (level-back _ start.requires.t) c.if-remaining-eq0.false (c.token_bits-token.ensures b w) (other-nz _ c.if-level-eq0.false)

@@ -1,50 +1,27 @@
-use Rattle.greedy_cost.proofs.Costing.{listed-length, usable-level, usable-listed, listed_below, considered-level, holder-next, holder-done}
+use Rattle.std.proofs.Common.{◌≡◌, length, ◌∙◌, arith}
+use Rattle.candidates.specs.Candidates.{in_array}
+use Rattle.steps.proofs.Listed.{back-listed, level-listed}
 use Rattle.steps.proofs.Zero.{level-back}
-use mathlib.Core.Path.{◌≡◌, sym, ◌∙◌}
-use native.Mathlib.Omega.{arith}
-use Prim.Native.Nat.{◌-◌}
-use borrow.Author.Rules.{rules}
+use Rattle.steps.specs.Plan.{listed}
+use Rattle.greedy_cost.proofs.Costing.{considered-level, holder-next, holder-done}
 use Rattle.greedy_cost.proofs.cost.cheapest.Goals as goal
 
-pub loop-j-init : goal.loop-j-init
-loop-j-init c =
-    let start = c.before.before.before.before.before.before in
-    let back = level-back start.args.current start.requires.t in
-    (search rules, (rw back start.requires.t, λ b w at. rw c.infinity.ensures))
+pub loop-level-init : goal.loop-level-init
+loop-level-init c = (rw (level-back c.args.current c.requires.t) c.requires.t, λ b w at. rw c.infinity.ensures)
 
-pub candidate_cost-cost-requires : goal.candidate_cost-cost-requires
-candidate_cost-cost-requires c = let start = c.before.before.before.before.before.before.before.before in
-    record { ready_value = start.requires.ready_value; coded = start.requires.coded; i_bound = start.requires.i_bound; t = usable-level start.requires.usable _ c.loop-j-test.true }
-
-pub overflow_add-j : goal.overflow_add-j
-overflow_add-j c =
-    let start = c.before.before.before.before.before.before.before.before.before.before.before in
-    record { fits = omega (arith, start.requires.usable.few, c.loop-j-test.true) }
-
-pub loop-j-preserved : goal.loop-j-preserved
-loop-j-preserved c =
-    let at-loop = c.before.before.before.before.before in
-    let start = at-loop.before.before.before.before.before.before in
-    let usable = start.requires.usable in
-    let here = c.loop-j-test.true in
-    let inv = at-loop.loop-j.invariant in (
-      search rules,
-      (
-        rw c.consider-best.ensures (considered-level _ _ _ inv.1.0 (usable-level usable _ here)),
-        λ b w at.
-            rw c.consider-best.ensures
-            (holder-next _ _ _ _ _ _ (listed_below usable _ here) (usable-listed usable _ here) (c.candidate_cost-cost.ensures b w at) ∙ inv.1.1 b w at),
-      ),
-    )
+pub loop-level-preserved : goal.loop-level-preserved
+loop-level-preserved c =
+    let inv = c.loop-level.invariant in
+    let here = c.loop-level-test.true in
+    let back = back-listed c.requires.usable _ here in
+    rw c.consider-best.ensures
+    (considered-level _ _ _ inv.0 (rw back (level-listed c.requires.usable _ here)), λ b w at. holder-next _ _ _ _ _ _ here back (c.candidate_cost-cost.ensures b w at) ∙ inv.1 b w at)
 
 pub returns : goal.returns
-returns c = let at-loop = c.before.before in
-    let start = at-loop.before.before.before.before.before.before in
-    let usable = start.requires.usable in
-    let last : at-loop.loop-j.j ≡ start.args.count = omega arith in
-    let level = at-loop.loop-j.invariant.1.0 in
+returns c =
+    let inv = c.loop-level.invariant in
+    let last : c.loop-level.level-index ≡ length (listed (in_array c.args.count c.args.levels.now)) = omega arith in
     record {
-      value = λ b w at.
-          holder-done _ _ _ _ _ _ _ _ (last ∙ sym (listed-length usable)) (level-back _ level) (level-back start.args.current start.requires.t) (at-loop.loop-j.invariant.1.1 b w at);
-      t_2 = rw (level-back _ level) level;
+      value = λ b w at. holder-done _ _ _ _ _ _ _ _ last (level-back _ inv.0) (level-back c.args.current c.requires.t) (inv.1 b w at);
+      level_kept = rw (level-back _ inv.0) inv.0;
     }

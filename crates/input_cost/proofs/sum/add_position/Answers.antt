@@ -42,7 +42,7 @@ local_cost-local-requires c = let pre = c.requires in
     let level = handed-back _ _ c.level_at-level.ensures r.level in
     let place = c.place-place.ensures w.block w.checked.planned (ideal-now w _ pre.i_lt_length c.ideal_at-ideal.ensures) (level-now w _ pre.i_lt_length level) in
     let counted = counted-more w _ pre.i_lt_length (pre.summed w).remaining_is c.nonzero.ensures (level-now w _ pre.i_lt_length level) in
-    record { ready_value = w.checked.book_passed; covered = covers-now w _ pre.i_lt_length place; coefficient = coded_now w _ pre.i_lt_length place counted; prev_bound = (c.prev_at-prev.ensures.upper_bound, rw level (level-has w _ pre.i_lt_length)) }
+    record { covered = covers-now w _ pre.i_lt_length place; coefficient = coded_now w _ pre.i_lt_length place counted; prev_bound = (c.prev_at-prev.ensures.upper_bound, rw level (level-has w _ pre.i_lt_length)) }
 
 pub returns : goal.returns
 returns c =

@@ -3,20 +3,17 @@ use Prim.Native.Nat.{ℕ, ◌*◌}
 use lib.ListN.{length}
 use Rattle.ac_context.proofs.Bounds.{covered-most}
 use Rattle.input_cost.proofs.Adding.{summed-end}
-use Rattle.input_cost.proofs.Turns.{whole-later}
+use Rattle.input_cost.proofs.Turns.{by-flag, whole-later}
 use Rattle.input_cost.proofs.sum.sum_past.Goals as goal
 
 pub start_of-start-requires : goal.start_of-start-requires
 start_of-start-requires c = let pre = c.requires in
     let w = pre.coded.1 in
-    record { ready_value = pre.ready_value; coded = pre.coded.0; whole = whole-later w; length_in_bounds = w.fits; perm = (w.scanned, w.few) }
+    record { coded = pre.coded.0; whole = whole-later w; length_in_bounds = w.fits; perm = (w.scanned, w.few) }
 
 pub prev_at-prev-requires : goal.prev_at-prev-requires
 prev_at-prev-requires c = let pre = c.requires in
     record { whole = pre.coded.1.whole; covered_bound = (covered-most pre.coded.0.covers, pre.coded.1.fits) }
-
-pub by_prev-requires : goal.by_prev-requires
-by_prev-requires c = c.prev_at-prev.ensures.upper_bound
 
 pub returns : goal.returns
 returns c =
@@ -24,4 +21,4 @@ returns c =
     let pre = c.requires in
     let prev = c.prev_at-prev.ensures in
     let long = ap length (sym es) ∙ pre.coded.1.whole.size ∙ ap (λ (n : ℕ). 64 * n) P.covered_is in
-    summed-end _ _ b (c.start_of-start.ensures b es el long P) (prev.value b es el P.covered_is) prev.upper_bound c.by_prev.ensures
+    summed-end _ _ b (c.start_of-start.ensures b es el long P) (prev.value b es el P.covered_is) prev.upper_bound (by-flag c.by_prev.ensures)

@@ -1,11 +1,6 @@
+use Rattle.std.proofs.Common.{◌≡◌, true}
 use Rattle.sheet.specs.Line.{printed_line, laid}
-use Prim.Native.Nat.{◌≤◌, ◌-◌}
-use mathlib.Core.Bool.{true}
-use mathlib.Core.Path.{◌≡◌}
 use Rattle.sheet.proofs.line.print_columns.Given as given
 
 abbrev pub invariant-loop-i : given.invariant-loop-i
-invariant-loop-i l = (l.i ≤ 31) × (l.out ≡ laid (printed_line true l.line) l.at l.i l.initial.out)
-
-abbrev pub decreases-loop-i : given.decreases-loop-i
-decreases-loop-i l = 31 - l.i
+invariant-loop-i l = l.out ≡ laid (printed_line true l.line) l.at l.i l.initial.out

@@ -5,6 +5,7 @@ use native.Mathlib.Omega.{arith}
 use lib.ListN.{get_or}
 use Rattle.ac_context.specs.Contexts.{zero_density_context}
 use Rattle.ac_context.proofs.Bounds.{covered-some, covered-most, pair-below, next-context}
+use Rattle.prices.proofs.Held.{known}
 use Rattle.steps.proofs.Stretches.{end-most, shared}
 use Rattle.steps.proofs.tail.stretch_at.Lts
 use Rattle.steps.proofs.tail.stretch_at.Reads
@@ -26,45 +27,39 @@ below c = pair-below (some c) c.requires.coefficient
 
 pub overflow_add-end : goal.overflow_add-end
 overflow_add-end c =
-    let start = c.before.before.before in
+    let start = c.before.before in
     omega (arith, start.requires.coefficient.left, covered-most start.requires.coded.covers, div-le_self start.args.k start.args.plan.covered)
 
 pub overflow_mul-end : goal.overflow_mul-end
 overflow_mul-end c =
-    let start = c.before.before.before.before in
+    let start = c.before.before in
     omega (arith, ends start, covered-most start.requires.coded.covers)
 
 pub overflow_mul-least : goal.overflow_mul-least
 overflow_mul-least c =
-    let start = c.before.before.before in
+    let start = c.before.before in
     omega (arith, div-mul-le_self (start.args.remaining - 1) start.args.plan.covered, start.requires.coefficient.left, covered-most start.requires.coded.covers)
 
 pub overflow_add-least : goal.overflow_add-least
 overflow_add-least c =
-    let start = c.before.before.before in
+    let start = c.before.before in
     omega (arith, div-mul-le_self (start.args.remaining - 1) start.args.plan.covered, start.requires.coefficient.left, covered-most start.requires.coded.covers)
 
-pub bounds-map-context : goal.bounds-map-context
-bounds-map-context c =
-    let start = c.before.before.before.before in
-    omega (arith, start.requires.map_len, start.requires.coded.offset, c.zero_density_context.ensures.1)
+pub bounds-book-context : goal.bounds-book-context
+bounds-book-context c =
+    let start = c.before.before in
+    omega (arith, (known start.args.book.now).sound.contexts, start.requires.coded.offset, c.zero_density_context.ensures.1)
 
-pub overflow_cast-zero : goal.overflow_cast-zero
-overflow_cast-zero c = omega (arith, c.shared_slice_known-2-1.given (c.args.plan.offset + c.zero_density_context.result))
-
-pub bounds-map-context-2 : goal.bounds-map-context-2
-bounds-map-context-2 c =
-    let start = c.before.before.before.before.before.before in
-    omega (arith, start.requires.map_len, start.requires.coded.offset, c.zero_density_context.ensures.0, below start)
-
-pub overflow_cast-one : goal.overflow_cast-one
-overflow_cast-one c = omega (arith, c.shared_slice_known-3-1.given (c.args.plan.offset + c.zero_density_context.result + 1))
+pub bounds-book-context-2 : goal.bounds-book-context-2
+bounds-book-context-2 c =
+    let start = c.before.before.before in
+    omega (arith, (known start.args.book.now).sound.contexts, start.requires.coded.offset, c.zero_density_context.ensures.0, below start)
 
 pub returns : goal.returns
 returns c =
-    let start = c.before.before.before.before.before.before in
+    let start = c.before.before.before.before in
     let plan = start.args.plan in
-    let map = start.args.map.now in
+    let map = start.args.book.now.map.now in
     let at = c.zero_density_context.ensures.0 in
     let r = c.zero_density_context.result in
     let next : plan.offset + r + 1 ≡ plan.offset + zero_density_context plan.covered start.args.remaining start.args.k 1 =

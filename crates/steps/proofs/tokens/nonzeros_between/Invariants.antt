@@ -1,11 +1,6 @@
+use Rattle.std.proofs.Common.{◌≡◌, ◌+◌, ◌-◌}
 use Rattle.block.specs.Block.{nonzeros_among}
-use Prim.Native.Nat.{◌≤◌, ◌-◌}
-use mathlib.Core.Path.{◌≡◌}
 use Rattle.steps.proofs.tokens.nonzeros_between.Given as given
 
 abbrev pub invariant-loop-k : given.invariant-loop-k
-invariant-loop-k l =
-    (l.from ≤ l.k) × ((l.k ≤ l.end) × (l.count ≡ nonzeros_among l.scan l.levels l.k (l.end - l.k)))
-
-abbrev pub decreases-loop-k : given.decreases-loop-k
-decreases-loop-k l = l.k
+invariant-loop-k l = l.count + nonzeros_among l.scan l.levels l.k (l.end - l.k) ≡ nonzeros_among l.scan l.levels l.from (l.end - l.from)

@@ -5,7 +5,7 @@ use lib.ListN.{length, length-set}
 use native.Mathlib.Nat.{le_refl}
 use native.Mathlib.Omega.{arith}
 use mathlib.Core.Path.{◌≡◌, refl, sym, ap, ◌∙◌}
-use Prim.Native.Nat.{◌+◌, ◌-◌}
+use Prim.Native.Nat.{◌+◌}
 use Rattle.half_bytes.proofs.Laws.{unpacked-size, kept-none}
 use Rattle.trellis_row.proofs.row.fill_row.Goals as goal
 
@@ -66,14 +66,14 @@ loop-r-preserved-then-infinite c =
 pub locals_in-locals-requires : goal.locals_in-locals-requires
 locals_in-locals-requires c = let at-loop = c.before.before.before.before.before.before.before.before.before in
     let work = at-loop.requires.workable in
-    record { ready_value = work.priced; context_bound = c.context-context.ensures.1; usable = work.usable; each = at-loop.distortions.ensures; first_len = at-loop.loop-r.invariant.1 }
+    record { context_bound = c.context-context.ensures.1; usable = work.usable; each = at-loop.distortions.ensures; first_len = at-loop.loop-r.invariant.1 }
 
 pub run_end-end-requires : goal.run_end-end-requires
 run_end-end-requires c = record { coding = coding-of c.requires.workable; from_le_most = c.loop-r-test.true }
 
 pub fill_run-requires : goal.fill_run-requires
 fill_run-requires c = let at-loop = c.before.before.before.before.before.before.before.before.before.before.before.before.before.before.before in
-    let start = at-loop.before.before.before.before.before.before.before.before.before.before.before in
+    let start = at-loop.before.before.before.before.before.before.before.before in
     let work = start.requires.workable in
     let inv = at-loop.loop-r.invariant.0 in
     let end = c.run_end-end.ensures in
@@ -107,7 +107,7 @@ loop-r-preserved c =
             zero_at = zero.zero_at;
             zero_none = zero.value;
           })),
-      local.first_len_2,
+      local.lengths_kept,
     )
 
 pub shape_of-current : goal.shape_of-current

@@ -1,81 +1,56 @@
 use Rattle.half_bytes.proofs.Laws.{unpacked-size}
 use Rattle.trellis_table.proofs.Turns.{from_first, from_second, after-back, to-first, to-second}
-use native.Mathlib.Nat.{le_refl}
 use Rattle.trellis_table.proofs.Turns.{rowed-start, from_tail}
 use Rattle.trellis_table.proofs.Steps.{last-room}
 use native.Mathlib.Omega.{arith}
-use Prim.Native.Nat.{◌-◌}
 use mathlib.Core.Path.{◌≡◌, refl, ◌∙◌}
 use Rattle.trellis_table.proofs.exchange.take_positions.Goals as goal
 
 pub loop-i-init : goal.loop-i-init
 loop-i-init c =
-    (le_refl _, ((λ t. rowed-start _ _ _ _ _ _ _ _ t.past_is t.row_is), record { first = refl; second = refl; choices = refl }))
+    ((λ t. rowed-start _ _ _ _ _ _ _ _ t.past_is t.row_is), record { first = refl; second = refl; choices = refl })
 
 pub take_position-step-requires : goal.take_position-step-requires
-take_position-step-requires c = let start = c.before.before.before.before.before.before.before.before.before.before.before.before.before.before.before.before.before.before in
-    let pre = start.requires in
+take_position-step-requires c =
+    let pre = c.requires in
     let inv = c.loop-i.invariant in
     let some = c.loop-i-test.true in
     let t = pre.tail_for in
     let rooms = pre.width_in_bounds in
-    record { width_bound = (pre.width_bound, omega (arith, inv.0)); next_for = from_tail t (after-back some (inv.1.0 t)) (from_first some (inv.1.0 t) c.if-in_first.true); width_in_bounds = (rw inv.1.1.first rooms.0, (rw inv.1.1.second rooms.1.0, rw inv.1.1.choices (last-room _ _ _ _ some inv.0 rooms.1.1))) }
-
-pub loop-i-smaller-then-in_first : goal.loop-i-smaller-then-in_first
-loop-i-smaller-then-in_first c = omega (arith, c.loop-i-test.true)
+    record { width_bound = (pre.width_bound, omega arith); next_for = from_tail t (after-back some (inv.0 t)) (from_first some (inv.0 t) c.if-in_first.true); width_in_bounds = (rw inv.1.first rooms.0, (rw inv.1.second rooms.1.0, rw inv.1.choices (last-room _ _ _ _ some (omega arith) rooms.1.1))) }
 
 pub loop-i-preserved-then-in_first : goal.loop-i-preserved-then-in_first
 loop-i-preserved-then-in_first c =
     let inv = c.loop-i.invariant in
     let some = c.loop-i-test.true in
-    let here = c.before.before.before.before.before.before.before.before.before.before.before.before in
-    let own = here.requires.tail_for in
+    let own = c.requires.tail_for in
     let taken = c.take_position-step.ensures in
-    let step = taken (from_tail own (after-back some (inv.1.0 own)) (from_first some (inv.1.0 own) c.if-in_first.true)) in (
-      omega (arith, inv.0),
-      (
-        (λ t. to-second some (inv.1.0 t) (taken (from_tail t (after-back some (inv.1.0 t)) (from_first some (inv.1.0 t) c.if-in_first.true)))),
-        record { first = inv.1.1.first; second = step.size ∙ inv.1.1.second; choices = unpacked-size _ _ step.elsewhere.size ∙ inv.1.1.choices },
-      ),
+    let step = taken (from_tail own (after-back some (inv.0 own)) (from_first some (inv.0 own) c.if-in_first.true)) in (
+      (λ t. to-second some (inv.0 t) (taken (from_tail t (after-back some (inv.0 t)) (from_first some (inv.0 t) c.if-in_first.true)))),
+      record { first = inv.1.first; second = step.size ∙ inv.1.second; choices = unpacked-size _ _ step.elsewhere.size ∙ inv.1.choices },
     )
 
 pub take_position-step-requires-else-in_first : goal.take_position-step-requires-else-in_first
-take_position-step-requires-else-in_first c = let start = c.before.before.before.before.before.before.before.before.before.before.before.before.before.before.before.before.before.before in
-    let pre = start.requires in
+take_position-step-requires-else-in_first c =
+    let pre = c.requires in
     let inv = c.loop-i.invariant in
     let some = c.loop-i-test.true in
     let t = pre.tail_for in
     let rooms = pre.width_in_bounds in
-    record { width_bound = (pre.width_bound, omega (arith, inv.0)); next_for = from_tail t (after-back some (inv.1.0 t)) (from_second some (inv.1.0 t) c.if-in_first.false); width_in_bounds = (rw inv.1.1.second rooms.1.0, (rw inv.1.1.first rooms.0, rw inv.1.1.choices (last-room _ _ _ _ some inv.0 rooms.1.1))) }
-
-pub loop-i-smaller : goal.loop-i-smaller
-loop-i-smaller c = omega (arith, c.loop-i-test.true)
+    record { width_bound = (pre.width_bound, omega arith); next_for = from_tail t (after-back some (inv.0 t)) (from_second some (inv.0 t) c.if-in_first.false); width_in_bounds = (rw inv.1.second rooms.1.0, (rw inv.1.first rooms.0, rw inv.1.choices (last-room _ _ _ _ some (omega arith) rooms.1.1))) }
 
 pub loop-i-preserved : goal.loop-i-preserved
 loop-i-preserved c =
     let inv = c.loop-i.invariant in
     let some = c.loop-i-test.true in
-    let here = c.before.before.before.before.before.before.before.before.before.before.before.before in
-    let own = here.requires.tail_for in
+    let own = c.requires.tail_for in
     let taken = c.take_position-step-else-in_first.ensures in
-    let step = taken (from_tail own (after-back some (inv.1.0 own)) (from_second some (inv.1.0 own) c.if-in_first.false)) in (
-      omega (arith, inv.0),
-      (
-        (λ t. to-first some (inv.1.0 t) (taken (from_tail t (after-back some (inv.1.0 t)) (from_second some (inv.1.0 t) c.if-in_first.false)))),
-        record { first = step.size ∙ inv.1.1.first; second = inv.1.1.second; choices = unpacked-size _ _ step.elsewhere.size ∙ inv.1.1.choices },
-      ),
+    let step = taken (from_tail own (after-back some (inv.0 own)) (from_second some (inv.0 own) c.if-in_first.false)) in (
+      (λ t. to-first some (inv.0 t) (taken (from_tail t (after-back some (inv.0 t)) (from_second some (inv.0 t) c.if-in_first.false)))),
+      record { first = step.size ∙ inv.1.first; second = inv.1.second; choices = unpacked-size _ _ step.elsewhere.size ∙ inv.1.choices },
     )
-
-pub shape_of-first : goal.shape_of-first
-shape_of-first c = c.loop-i.invariant.1.1.first
-
-pub shape_of-second : goal.shape_of-second
-shape_of-second c = c.loop-i.invariant.1.1.second
-
-pub shape_of-choices : goal.shape_of-choices
-shape_of-choices c = c.loop-i.invariant.1.1.choices
 
 pub returns : goal.returns
 returns c = let inv = c.loop-i.invariant in
     let last : c.loop-i.i ≡ 0 = omega (arith, c.loop-i-test.false) in
-    record { rowed = (λ t. rw last at (inv.1.0 t)); kept = inv.1.1 }
+    record { rowed = (λ t. rw last at (inv.0 t)); kept = inv.1 }

@@ -31,7 +31,7 @@ overflow_sub-left-2 c = let pre = c.requires in omega (arith, pre.width_bound.1)
 
 pub last_count-requires : goal.last_count-requires
 last_count-requires c =
-    let start = c.before.before.before.before.before.before.before.before.before.before.before.before.before.before.before.before.before.before.before.before.before in
+    let start = c.before.before.before.before.before.before.before.before.before.before.before.before.before.before in
     let pre = start.requires in
     let t = pre.next_for in
     let few : start.args.after ≤ 65536 = rw t.after_is (remaining-few t.searched.checked _) in
@@ -47,7 +47,7 @@ pub overflow_mul-width-2 : goal.overflow_mul-width-2
 overflow_mul-width-2 c = let pre = c.requires in record { fits = small_at _ _ _ pre.width_bound.0 pre.width_bound.1 (window-few pre.next_for.searched.checked) }
 
 pub fill_row-requires : goal.fill_row-requires
-fill_row-requires c = let start = c.before.before.before.before.before.before.before.before.before.before.before.before.before.before.before.before.before.before.before.before.before.before.before.before.before in
+fill_row-requires c = let start = c.before.before.before.before.before.before.before.before.before.before.before.before.before.before.before.before.before.before in
     let pre = start.requires in
     let t = pre.next_for in
     let K = rowable-of t.searched pre.width_bound.0 in
@@ -76,14 +76,14 @@ fill_row-requires c = let start = c.before.before.before.before.before.before.be
 
 pub overflow_add-result : goal.overflow_add-result
 overflow_add-result c =
-    let start = c.before.before.before.before.before.before.before.before.before.before.before.before.before.before.before.before.before.before.before.before.before.before.before.before.before.before.before.before.before.before.before.before in
+    let start = c.before.before.before.before.before.before.before.before.before.before.before.before.before.before.before.before.before.before.before.before.before.before.before.before.before in
     let few : start.args.after ≤ 65536 = rw start.requires.next_for.after_is (remaining-few start.requires.next_for.searched.checked _) in
     let one : c.nonzero.result ≤ 1 = rw c.nonzero.ensures (nz-le _) in
     record { fits = omega arith }
 
 pub returns : goal.returns
 returns c =
-    let start = c.before.before.before.before.before.before.before.before.before.before.before.before.before.before.before.before.before.before.before.before.before.before.before.before.before.before.before.before.before.before.before.before in
+    let start = c.before.before.before.before.before.before.before.before.before.before.before.before.before.before.before.before.before.before.before.before.before.before.before.before.before in
     let pre = start.requires in
     λ t.
     let K = rowable-of t.searched pre.width_bound.0 in

@@ -5,13 +5,13 @@ use Rattle.steps.proofs.Zero.{handed-current, handed-back}
 use Rattle.steps.proofs.reading.Plan.offer.Goals as goal
 
 pub list_candidates-requires : goal.list_candidates-requires
-list_candidates-requires c = let start = c.before.before.before.before.before.before.before.before.before in
+list_candidates-requires c = let start = c.before.before.before.before.before.before.before in
     let ideal = c.ideal_at-ideal.ensures in
     let level = c.level_at-level.ensures in
-    record { fact_1 = rw ideal start.requires.readable.ideal; fact_2 = handed-current _ _ level start.requires.readable.level }
+    record { is_ideal = rw ideal start.requires.readable.ideal; is_current = handed-current _ _ level start.requires.readable.level }
 
 pub returns : goal.returns
-returns c = let start = c.before.before.before.before.before.before.before.before.before.before in
+returns c = let start = c.before.before.before.before.before.before.before.before in
     let ideal = c.ideal_at-ideal.ensures in
     let level = c.level_at-level.ensures in
     let back = handed-back _ _ level start.requires.readable.level in

@@ -1,4 +1,0 @@
-// What the public calls on single values and prices answer.
-#![tactic(auto)]
-
-pub mod answer;

@@ -1,7 +1,0 @@
-use mathlib.Core.Path.{refl}
-use Rattle.group_list.specs.Heads.{head_at}
-use Rattle.group_block.proofs.bias_at.Goals as goal
-
-pub returns : goal.returns
-unfolding head_at
-returns c = λ words. refl
