@@ -29,7 +29,7 @@ pub fn fine_block_context(c: usize, ac_strategy_code: usize, qf_hi: bool) -> u32
     requires { (c < 3) × (ac_strategy_code < 27) }
     ensures { (result ≡ fine_block_context c ac_strategy_code qf_hi) × (result < fine_block_contexts) }
 {
-    block_context(c, ac_strategy_code) * K_NUM_QF_CLASSES + qf_hi as u32
+    block_context(c, ac_strategy_code) * K_NUM_QF_CLASSES + u32::from(qf_hi)
 }
 
 pub fn non_zero_bucket(non_zeros: u32) -> u32
@@ -94,7 +94,8 @@ pub fn last_count_alike(
     tables::last_alike(nz) << log2_covered_blocks
 }
 
-// log2 of a number of covered blocks, or 11 where it is no power of two up to 1,024.
+// log2 of a number of covered blocks, or 11 where it is no power of two up to 1,024. (An `Option` is no plainer: two of the four callers know that there is one, and
+// would have to unwrap it.)
 pub fn log2_covered(covered_blocks: usize) -> u32
     ensures { Logarithm covered_blocks result }
 {

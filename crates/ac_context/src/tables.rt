@@ -14,17 +14,11 @@ const K_STRATEGY_ORDER: [u8; 27] = [
 
 const CHANNEL_ROW: [usize; 3] = [1, 0, 2];
 
-fn wide(x: u8) -> usize
-    ensures { result ≡ x }
-{
-    x as usize
-}
-
 pub(crate) fn strategy_order(code: usize) -> usize
     requires { code < 27 }
     ensures { (result ≡ get_or strategy_order code 0) × (result < 13) }
 {
-    wide(K_STRATEGY_ORDER[code])
+    usize::from(K_STRATEGY_ORDER[code])
 }
 
 pub(crate) fn channel_row(c: usize) -> usize
@@ -38,7 +32,7 @@ pub(crate) fn compact_block_context(at: usize) -> usize
     requires { at < 39 }
     ensures { (result ≡ get_or block_context_map at 0) × (result < 15) }
 {
-    wide(K_COMPACT_BLOCK_CONTEXT_MAP[at])
+    usize::from(K_COMPACT_BLOCK_CONTEXT_MAP[at])
 }
 
 // The two tables below are read in the searches' inner loops. A constant array is built anew at each use, so their entries are worked

@@ -1,5 +1,5 @@
 -- The whole call: each way it ends is the defined outcome. Assumes nothing.
-use mathlib.Core.Path.{◌≡◌, sym, ap, ◌∙◌, subst}
+use mathlib.Core.Path.{◌≡◌, ap, ◌∙◌, subst}
 use mathlib.Core.List.{List}
 use Prim.Native.Nat.{ℕ, ◌*◌, ◌≤◌}
 use borrow.Author.Tests.{eq-eqb, ne_eqb}
@@ -13,7 +13,7 @@ use Rattle.prices.specs.Book.{Book}
 use Rattle.search_checks.proofs.Checked.{own-lists}
 use Rattle.search_checks.proofs.Refusing.{no_rows}
 use Rattle.search_checks.specs.Checked.{Checked, Searched}
-use Rattle.steps.specs.declared.reading.Plan.{Plan}
+use Rattle.steps.specs.declared.plan.Plan.{Plan}
 use Rattle.weights.specs.Window.{window_for}
 use Rattle.weights.specs.declared.Window.{Window}
 use Rattle.weights.proofs.Lengths.{whole-window}

@@ -19,7 +19,7 @@ use Rattle.block.specs.Cost.{first_prev, count_cost}
 use Rattle.least_cost.specs.Search.{Problem, least, holder}
 use Rattle.prices.specs.Book.{Book}
 use Rattle.steps.specs.Plan.{Planned}
-use Rattle.steps.specs.declared.reading.Plan.{Plan}
+use Rattle.steps.specs.declared.plan.Plan.{Plan}
 use Rattle.beam.specs.Beam.{path_total, beam_cost, beam_path, problem}
 use Rattle.beam.specs.Held.{paths, Ended}
 use Rattle.steps.specs.Best.{considered}

@@ -16,13 +16,14 @@ use Rattle.beam_row.specs.Held.{Spot, spot_of, Stands, Takeable, Taken}
 use Rattle.block.specs.Block.{Block, covered, input_at, ideal, candidates_at}
 use Rattle.block.specs.Band.{position_at, tail_of, half_width}
 use Rattle.block_checks.specs.Passed.{Passed}
+use Rattle.candidates.specs.Candidates.{in_array}
 use Rattle.prices.specs.Book.{Book}
 use Rattle.search_checks.specs.Checked.{positions, Checked, Searched}
 use Rattle.search_checks.proofs.Checked.{readable-here, positions-cons}
 use Rattle.steps.specs.Place.{place_of, local_at}
-use Rattle.steps.specs.Plan.{Planned, Lists, Readable, Offered, listed, Usable}
+use Rattle.steps.specs.Plan.{Planned, Lists, Readable, Offered, listed, Pickable}
 use Rattle.steps.specs.declared.Place.{Place}
-use Rattle.steps.specs.declared.reading.Plan.{Plan}
+use Rattle.steps.specs.declared.plan.Plan.{Plan}
 use Rattle.steps.specs.declared.reading.Offer.{Offer}
 use Rattle.steps.proofs.Local.{local-is}
 use Rattle.weights.specs.declared.Window.{Window}
@@ -34,7 +35,7 @@ use Rattle.beam.proofs.Priced.{local-cost, carried-at, count_fits}
 -- what stands at window position i of a block
 pub record Spotted (v : Window) (b : Block) (log2 i : ℕ) (s : Spot) : Type 0 where
   pub place_is : s.place ≡ place_of b log2 i
-  pub listed_is : listed s.candidates ≡ candidates_at v b i
+  pub listed_is : s.candidates ≡ candidates_at v b i
 
 -- the positions of a block, whatever is asked of them
 module _ {book : Book} {b : Block} {p : Plan} (K : Checked book b p) where
@@ -70,15 +71,15 @@ module _ {book : Book} {b : Block} {p : Plan} (K : Checked book b p) where
             let l : j < length (paths p.window book b (suc i)) = omega (arith, F.count_is) in
             omega (arith, F.remaining_is j l, fits-of (suc i) j h l)
 
-        pub takeable : Usable spot.candidates → Takeable book spot s
+        pub takeable : Pickable spot.candidates → Takeable book spot s
         unfolding place_of
         takeable U =
             record {
               priced = K.book_passed;
-              usable = U;
+              pickable = U;
               covers = rw (S.place_is, ← K.planned.covered_is) K.planned.covers;
               coded = rw S.place_is (omega arith);
-              offset = rw (S.place_is, ← K.planned.offset_is) K.coded.offset;
+              offset = rw (S.place_is, ← K.planned.offset_is) p.coded.offset;
               few = F.few;
               three = F.three;
               six = F.six;
@@ -116,7 +117,7 @@ module _ {book : Book} {scan : List ℕ} {source inverse : List Float} {levels :
 
   -- a position by what it offers and what prices a level there
   pub spotted-now : {i : ℕ} {offer : Offer} {array : List ℤ} {x : Place} {level : ℤ} → ((b : Block) → Lists b scan source inverse levels → Planned b plan → Offered plan.window b i offer array) → level ≡ offer.level
-      → ((b : Block) → Planned b plan → offer.ideal ≡ ideal b i → level ≡ input_at b (covered b + i) → x ≡ place_of b plan.log2 i) → Spotted plan.window w.block plan.log2 i (spot_of x offer.count array)
+      → ((b : Block) → Planned b plan → offer.ideal ≡ ideal b i → level ≡ input_at b (covered b + i) → x ≡ place_of b plan.log2 i) → Spotted plan.window w.block plan.log2 i (spot_of x (listed (in_array offer.count array)))
   spotted-now O back placed =
       let o = O w.block w.lists w.checked.planned in
       record { place_is = placed w.block w.checked.planned o.ideal_is (back ∙ o.level_is); listed_is = o.listed_is }

@@ -14,7 +14,7 @@ use Rattle.beam_paths.specs.declared.Paths.{Paths}
 use Rattle.block.specs.Band.{position_at, half_width}
 use Rattle.block.specs.Block.{Block}
 use Rattle.prices.specs.Book.{Book}
-use Rattle.steps.specs.declared.reading.Plan.{Plan}
+use Rattle.steps.specs.declared.plan.Plan.{Plan}
 use Rattle.search_checks.specs.Checked.{Searched}
 use Rattle.weights.specs.declared.Window.{Window}
 use Rattle.beam.specs.Held.{paths, path_at, ChosenAt, Stepped, Reached}

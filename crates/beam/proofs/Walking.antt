@@ -25,7 +25,7 @@ use Rattle.search_checks.proofs.Checked.{first_bit, first_is}
 use Rattle.search_checks.proofs.Writing.{WrittenTo, from-here, none_written, offer-listed, more-written}
 use Rattle.steps.proofs.Zero.{level-back}
 use Rattle.steps.specs.Plan.{Planned, Lists, Offered, Usable, listed}
-use Rattle.steps.specs.declared.reading.Plan.{Plan}
+use Rattle.steps.specs.declared.plan.Plan.{Plan}
 use Rattle.steps.specs.declared.reading.Offer.{Offer}
 use Rattle.beam.specs.Held.{paths, path_at, levels_of, Walkable}
 use Rattle.beam.proofs.Carried.{Leads, way-rest, paths-few}

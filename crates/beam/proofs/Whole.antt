@@ -21,7 +21,7 @@ use Rattle.costs.proofs.Order.{lt-inf}
 use Rattle.prices.specs.Book.{Book}
 use Rattle.scan.specs.Scan.{put}
 use Rattle.search_checks.specs.Checked.{Searched}
-use Rattle.steps.specs.declared.reading.Plan.{Plan}
+use Rattle.steps.specs.declared.plan.Plan.{Plan}
 use Rattle.beam.specs.Beam.{beam_cost, beam_count, beam_levels, problem, answered, written}
 use Rattle.beam.specs.Held.{paths, levels_of, Reached, Countable, Ended, Walkable, Done}
 use Rattle.steps.specs.declared.best.Best.{Best}
@@ -37,7 +37,6 @@ module _ {book : Book} {scan : List ℕ} {source inverse : List Float} {levels :
   countable {s} F =
       record {
         priced = w.checked.book_passed;
-        coded = w.checked.coded;
         covered = omega (arith, w.checked.planned.covered_is, w.checked.passed.most);
         few = F.few;
         three = F.three;

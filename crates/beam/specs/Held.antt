@@ -10,8 +10,7 @@ use Rattle.block.specs.Cost.{first_prev}
 use Rattle.prices.specs.Book.{Book}
 use Rattle.prices.specs.Checks.{book_refusal}
 use Rattle.search_checks.specs.Checked.{positions, Searched}
-use Rattle.steps.specs.Plan.{Coded}
-use Rattle.steps.specs.declared.reading.Plan.{Plan}
+use Rattle.steps.specs.declared.plan.Plan.{Plan}
 use Rattle.weights.specs.declared.Window.{Window}
 use Rattle.beam.specs.Beam.{beam_paths, beam_cost, beam_path, problem}
 use Rattle.steps.specs.declared.best.Best.{Best}
@@ -50,7 +49,6 @@ pub record Reached (v : Window) (book : Book) (b : Block) (i : ℕ) (choices : L
 -- paths whose counts have a price
 pub record Countable (book : Book) (plan : Plan) (s : Paths) : Type 0 where
   pub priced : book_refusal book ≡ 0
-  pub coded : Coded plan
   pub covered : plan.covered ≤ 1024
   pub few : s.count ≤ 3
   pub three : length s.remaining ≡ 3

@@ -11,7 +11,7 @@ ghost use Rattle.beam.specs.Held.{paths, Countable, Ended};
 use beam_paths::Paths;
 use prices::book::PriceBook;
 use steps::best::Best;
-use steps::reading::Plan;
+use steps::plan::Plan;
 use steps::tokens;
 
 // The whole cost of path `j`.

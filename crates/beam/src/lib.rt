@@ -18,12 +18,12 @@ ghost use Rattle.price_view.specs.View.{book_in};
 ghost use Rattle.block.specs.Answer.{answer_of};
 
 use block::{Answer, BlockData};
-use block_checks::{Asked, RoomLengths};
+use block_checks::{Asked, Limits, RoomLengths};
 use price_view::PriceView;
 use prices::book::PriceBook;
 
 // Choice bytes a window position.
-pub const BEAM_BYTES: usize = 6;
+pub const BEAM_BYTES: usize = positions::BEAM_STRIDE;
 
 // The search alone, of a block that passed its checks: a window of at most `cap` positions.
 pub fn search_beam(
@@ -38,7 +38,7 @@ pub fn search_beam(
     ensures { let b = block_with block.now levels.old in
         outcome_of (answer_of result) levels.new choices.new ≡ searched_outcome (window_for cap (covered b)) (contents book.now) b choices.old }
 {
-    let plan = steps::reading::plan_of(block.shape, block.settings, block.bias, block.scale, cap);
+    let plan = steps::reading::plan_of(block, cap);
     let answer = search::search(book, block, levels, plan, choices);
     rooms::clear_choices(choices);
     answer
@@ -64,8 +64,10 @@ pub fn rdoq_block_beam(
         view,
         block,
         levels,
-        half_width,
-        weights::WINDOW_CAP,
+        Limits {
+            half_width,
+            cap: weights::WINDOW_CAP,
+        },
         Asked {
             bytes: BEAM_BYTES,
             floats: 0,

@@ -8,11 +8,13 @@ ghost use Rattle.beam.specs.Held.{paths, Stored, Stepped, Reached};
 use beam_paths::Paths;
 use block::BlockData;
 use prices::book::PriceBook;
-use steps::reading::Plan;
+use steps::plan::Plan;
+use steps::reading::CandidateList;
 
 // Three paths, each with a choice for either `prev`.
 pub(crate) const BEAM_STRIDE: usize = 6;
 
+// Byte by byte, as `Stored` speaks of them.
 fn store(choices: &mut [u8], at: usize, six: [u8; 6])
     requires { (at ≤ 65536) × (at + 6 ≤ length choices.old) }
     ensures { Stored at six choices.old choices.new }
@@ -42,13 +44,16 @@ fn take_position(
     let mut offered = [0i32; 5];
     let offer = plan.offer(block, levels, i, &mut offered);
     let place = plan.place(i, offer.ideal, offer.level);
-    let step = beam_row::take_step(book, place, &offered, offer.count, behind);
+    let candidates = CandidateList {
+        levels: &offered[..offer.count],
+    };
+    let step = beam_row::take_step(book, place, &candidates, behind);
     let bytes = step.choices;
     store(choices, BEAM_STRIDE * i, bytes);
     step.paths
 }
 
-// The positions before `from`, down to `upto`.
+// The positions before `from`, down to `upto`. What all share comes one by one: a struct of it would have a lifetime for each reference.
 pub(crate) fn take_positions(
     book: &PriceBook,
     block: &BlockData,

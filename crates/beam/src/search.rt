@@ -19,7 +19,7 @@ use refusals::Refusal;
 use search_checks::start;
 use search_checks::start::Start;
 use steps::best::Best;
-use steps::reading::Plan;
+use steps::plan::Plan;
 
 // What follows the window, as the one path to start from.
 fn start_paths(start: Start) -> Paths

@@ -6,7 +6,7 @@ ghost use Rattle.beam.specs.Held.{Walkable, levels_of};
 
 use crate::positions;
 use block::BlockData;
-use steps::reading::Plan;
+use steps::plan::Plan;
 use steps::tokens;
 
 // The choice at a position, for a path and `prev`.
@@ -15,7 +15,7 @@ fn choice_at(choices: &[u8], i: usize, path: usize, prev: usize) -> usize
     requires path_bound { (path < 3) × (prev ≤ 1) }
     ensures { result ≡ get_or choices.now (6 * i + (2 * path + prev)) 0 }
 {
-    choices[positions::BEAM_STRIDE * i + (2 * path + prev)] as usize
+    usize::from(choices[positions::BEAM_STRIDE * i + (2 * path + prev)])
 }
 
 // From path `first` of the first position, whose count is `count`.

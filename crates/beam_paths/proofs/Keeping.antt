@@ -115,23 +115,23 @@ module _ {q : Position} {xs : List Path} where
 
   module _ {k : Kept} {y : Path} {e : Entry} (Y : EntryIs q xs y e) where
     -- behind the others
-    pub push-one : (ys : List Path) → KeptIs q xs ys k → k.count ≡ 0 → KeptIs q xs (ys ++ (y ∷ [])) (record { count = k.count + 1; one = e; two = k.two; three = k.three })
+    pub push-one : (ys : List Path) {f : k.count + 1 ≤ 3} → KeptIs q xs ys k → k.count ≡ 0 → KeptIs q xs (ys ++ (y ∷ [])) (record { count = k.count + 1; one = e; two = k.two; three = k.three; few = f })
     push-one [] w z = kept-one (omega arith) Y
     push-one (a ∷ ys) w z = absurd (omega (arith, w.count_is))
 
-    pub push-two : (ys : List Path) → KeptIs q xs ys k → k.count ≡ 1 → KeptIs q xs (ys ++ (y ∷ [])) (record { count = k.count + 1; one = k.one; two = e; three = k.three })
+    pub push-two : (ys : List Path) {f : k.count + 1 ≤ 3} → KeptIs q xs ys k → k.count ≡ 1 → KeptIs q xs (ys ++ (y ∷ [])) (record { count = k.count + 1; one = k.one; two = e; three = k.three; few = f })
     push-two [] w z = absurd (omega (arith, w.count_is))
     push-two (a ∷ []) w z = kept-two (omega arith) (w.one (omega arith)) Y
     push-two (a ∷ b ∷ ys) w z = absurd (omega (arith, w.count_is))
 
-    pub push-three : (ys : List Path) → KeptIs q xs ys k → k.count ≡ 2 → KeptIs q xs (ys ++ (y ∷ [])) (record { count = k.count + 1; one = k.one; two = k.two; three = e })
+    pub push-three : (ys : List Path) {f : k.count + 1 ≤ 3} → KeptIs q xs ys k → k.count ≡ 2 → KeptIs q xs (ys ++ (y ∷ [])) (record { count = k.count + 1; one = k.one; two = k.two; three = e; few = f })
     push-three [] w z = absurd (omega (arith, w.count_is))
     push-three (a ∷ []) w z = absurd (omega (arith, w.count_is))
     push-three (a ∷ b ∷ []) w z = kept-three (omega arith) (w.one (omega arith)) (w.two (omega arith)) Y
     push-three (a ∷ b ∷ c ∷ ys) w z = absurd (omega (arith, w.count_is))
 
     -- ---- in front of the first that is dearer: the three places, and none
-    pub insert-one : (ys : List Path) {n : ℕ} → KeptIs q xs ys k → n ≡ next ys → goes y ys 0 ≡ true → KeptIs q xs (take 3 (insert y ys)) (record { count = n; one = e; two = k.one; three = k.two })
+    pub insert-one : (ys : List Path) {n : ℕ} {f : n ≤ 3} → KeptIs q xs ys k → n ≡ next ys → goes y ys 0 ≡ true → KeptIs q xs (take 3 (insert y ys)) (record { count = n; one = e; two = k.one; three = k.two; few = f })
     unfolding insert
     insert-one [] w m t = kept-one m Y
     insert-one (a ∷ []) w m t = rw t (kept-two m Y (w.one (omega arith)))
@@ -139,7 +139,7 @@ module _ {q : Position} {xs : List Path} where
     insert-one (a ∷ b ∷ c ∷ []) w m t = rw t (kept-three m Y (w.one (omega arith)) (w.two (omega arith)))
     insert-one (a ∷ b ∷ c ∷ d ∷ ys) w m t = absurd (omega (arith, w.few))
 
-    pub insert-two : (ys : List Path) {n : ℕ} → KeptIs q xs ys k → n ≡ next ys → goes y ys 0 ≡ false → goes y ys 1 ≡ true → KeptIs q xs (take 3 (insert y ys)) (record { count = n; one = k.one; two = e; three = k.two })
+    pub insert-two : (ys : List Path) {n : ℕ} {f : n ≤ 3} → KeptIs q xs ys k → n ≡ next ys → goes y ys 0 ≡ false → goes y ys 1 ≡ true → KeptIs q xs (take 3 (insert y ys)) (record { count = n; one = k.one; two = e; three = k.two; few = f })
     unfolding insert
     insert-two [] w m f t = absurd (true≢false f)
     insert-two (a ∷ []) w m f t = rw f (kept-two m (w.one (omega arith)) Y)
@@ -147,7 +147,7 @@ module _ {q : Position} {xs : List Path} where
     insert-two (a ∷ b ∷ c ∷ []) w m f t = rw (f, t) (kept-three m (w.one (omega arith)) Y (w.two (omega arith)))
     insert-two (a ∷ b ∷ c ∷ d ∷ ys) w m f t = absurd (omega (arith, w.few))
 
-    pub insert-three : (ys : List Path) {n : ℕ} → KeptIs q xs ys k → n ≡ next ys → goes y ys 0 ≡ false → goes y ys 1 ≡ false → goes y ys 2 ≡ true → KeptIs q xs (take 3 (insert y ys)) (record { count = n; one = k.one; two = k.two; three = e })
+    pub insert-three : (ys : List Path) {n : ℕ} {f : n ≤ 3} → KeptIs q xs ys k → n ≡ next ys → goes y ys 0 ≡ false → goes y ys 1 ≡ false → goes y ys 2 ≡ true → KeptIs q xs (take 3 (insert y ys)) (record { count = n; one = k.one; two = k.two; three = e; few = f })
     unfolding insert
     insert-three [] w m f g t = absurd (true≢false f)
     insert-three (a ∷ []) w m f g t = absurd (true≢false g)

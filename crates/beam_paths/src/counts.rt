@@ -7,7 +7,7 @@ ghost use Rattle.beam_paths.specs.Entries.{named};
 
 use crate::Paths;
 
-// The first `length` entries are the counts, in the order in which they were named.
+// The first `length` entries are the counts, in the order in which they were named: in fixed memory, since there is no heap.
 #[derive(Clone, Copy)]
 pub struct Counts {
     pub length: usize,

@@ -1,6 +1,10 @@
 // One path, with the choices that it came by.
-ghost use Rattle.std.specs.Prelude.{◌≡◌};
-ghost use Rattle.beam_paths.specs.Entries.{both_considered};
+ghost use Rattle.std.specs.Prelude.{◌≡◌, List, ◌||◌, ◌<◌, leb};
+ghost use Rattle.std.specs.Float.Ieee.{lt};
+ghost use Rattle.least_cost.specs.Position.{Position};
+ghost use Rattle.beam_paths.specs.Path.{Path};
+ghost use Rattle.beam_paths.specs.Step.{key};
+ghost use Rattle.beam_paths.specs.Entries.{both_considered, EntryIs};
 
 use steps::best::Best;
 
@@ -23,5 +27,24 @@ impl Entry {
             first: self.first.consider(first, choice),
             second: self.second.consider(second, choice),
         }
+    }
+
+    // The smaller cost of the two.
+    fn key(self) -> f32
+        ensures { (q : Position) (xs : List Path) (y : Path) → EntryIs q xs y self → result ≡ key y }
+    {
+        let first = self.first;
+        let second = self.second;
+        if second.cost < first.cost {
+            return second.cost;
+        }
+        first.cost
+    }
+
+    // Whether there is no path at `at`, or a dearer one.
+    pub(crate) fn goes_before(self, other: Entry, count: usize, at: usize) -> bool
+        ensures { (q : Position) (xs : List Path) (x y : Path) → EntryIs q xs x self → (at < count → EntryIs q xs y other) → result ≡ leb count at || lt (key x) (key y) }
+    {
+        count <= at || self.key() < other.key()
     }
 }

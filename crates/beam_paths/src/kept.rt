@@ -1,37 +1,27 @@
 // The paths kept so far, at most three.
-ghost use Rattle.std.specs.Prelude.{◌≡◌, List, [], ◌∷◌, ◌++◌, cond, ◌||◌, suc, ◌+◌, ◌%◌, ◌<◌, ◌≤◌, length, take, leb};
-ghost use Rattle.std.specs.Float.Ieee.{lt};
+ghost use Rattle.std.specs.Prelude.{◌≡◌, List, [], ◌∷◌, ◌++◌, cond, suc, ◌+◌, ◌%◌, ◌<◌, ◌≤◌, length, take, leb};
 ghost use Rattle.least_cost.specs.Position.{Position};
 ghost use Rattle.beam_paths.specs.Path.{Path};
-ghost use Rattle.beam_paths.specs.Step.{key, insert};
+ghost use Rattle.beam_paths.specs.Step.{insert};
 ghost use Rattle.beam_paths.specs.Held.{PathsFor, Remembered};
-ghost use Rattle.beam_paths.specs.Entries.{EntryIs, KeptIs};
 
 use crate::entry::Entry;
 use crate::{Paths, Step};
 use steps::best::Best;
 
+// By name and not in an array, since an entry takes the place of another at a fixed index.
 #[derive(Clone, Copy)]
 pub struct Kept {
     pub count: usize,
     pub one: Entry,
     pub two: Entry,
     pub three: Entry,
-}
-
-// The smaller cost of the two.
-fn key(entry: Entry) -> f32
-    ensures { (q : Position) (xs : List Path) (y : Path) → EntryIs q xs y entry → result ≡ key y }
-{
-    let first = entry.first;
-    let second = entry.second;
-    if second.cost < first.cost {
-        return second.cost;
-    }
-    first.cost
+    ghost few: { count ≤ 3 },
 }
 
 impl Kept {
+    ghost use Rattle.beam_paths.specs.Entries.{EntryIs, KeptIs};
+
     pub fn none() -> Kept
         ensures count_value { result.count ≡ 0 }
         ensures kept_is { (q : Position) (xs : List Path) → KeptIs q xs [] result }
@@ -75,15 +65,13 @@ impl Kept {
 
     // In front of the first that is dearer; a fourth falls off.
     fn insert(self, entry: Entry) -> Kept
-        requires { self.count ≤ 3 }
-        ensures count_bound { result.count ≤ 3 }
-        ensures kept_is { (q : Position) (xs ys : List Path) (y : Path) → EntryIs q xs y entry → KeptIs q xs ys self → KeptIs q xs (take 3 (insert y ys)) result }
+        ensures { (q : Position) (xs ys : List Path) (y : Path) → EntryIs q xs y entry → KeptIs q xs ys self → KeptIs q xs (take 3 (insert y ys)) result }
     {
         let one = self.one;
         let two = self.two;
         let three = self.three;
         let count = (self.count + 1).min(3);
-        if goes_before(entry, one, self.count, 0) {
+        if entry.goes_before(one, self.count, 0) {
             return Kept {
                 count,
                 one: entry,
@@ -91,7 +79,7 @@ impl Kept {
                 three: two,
             };
         }
-        if goes_before(entry, two, self.count, 1) {
+        if entry.goes_before(two, self.count, 1) {
             return Kept {
                 count,
                 one,
@@ -99,7 +87,7 @@ impl Kept {
                 three: two,
             };
         }
-        if goes_before(entry, three, self.count, 2) {
+        if entry.goes_before(three, self.count, 2) {
             return Kept {
                 count,
                 one,
@@ -111,9 +99,7 @@ impl Kept {
     }
 
     pub fn keep(self, entry: Entry, counts: usize) -> Kept
-        requires count_bound { self.count ≤ 3 }
-        requires count_bound_2 { counts ≤ 3 → self.count < 3 }
-        ensures count_bound_3 { result.count ≤ 3 }
+        requires { counts ≤ 3 → self.count < 3 }
         ensures count_value { counts ≤ 3 → result.count ≡ self.count + 1 }
         ensures kept_is { (q : Position) (xs ys : List Path) (y : Path) → EntryIs q xs y entry → KeptIs q xs ys self → KeptIs q xs (cond (leb counts 3) (ys ++ (y ∷ [])) (take 3 (insert y ys))) result }
     {
@@ -124,7 +110,6 @@ impl Kept {
     }
 
     pub fn step(self) -> Step
-        requires { self.count ≤ 3 }
         ensures { (q : Position) (xs ys : List Path) → length xs ≤ 3 → KeptIs q xs ys self → (PathsFor ys result.paths) × Remembered q xs ys result.choices }
     {
         let one = self.one;
@@ -166,11 +151,4 @@ fn byte_of(choice: u32) -> u8
     ensures { result ≡ choice % 256 }
 {
     (choice % 256) as u8
-}
-
-// Whether there is no path at `at`, or a dearer one.
-fn goes_before(entry: Entry, other: Entry, count: usize, at: usize) -> bool
-    ensures { (q : Position) (xs : List Path) (x y : Path) → EntryIs q xs x entry → (at < count → EntryIs q xs y other) → result ≡ leb count at || lt (key x) (key y) }
-{
-    count <= at || key(entry) < key(other)
 }

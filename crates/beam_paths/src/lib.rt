@@ -5,7 +5,7 @@ pub mod counts;
 pub mod entry;
 pub mod kept;
 
-// At most three paths. The cost for `prev` p of path j stands at 2 j + p.
+// At most three paths, in fixed memory, since there is no heap. The cost for `prev` p of path j stands at 2 j + p.
 #[derive(Clone, Copy)]
 pub struct Paths {
     pub count: usize,

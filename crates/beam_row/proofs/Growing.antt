@@ -20,7 +20,6 @@ use Rattle.least_cost.specs.Position.{Position}
 use Rattle.least_cost.proofs.Trial.{nz-le}
 use Rattle.prices.specs.Book.{Book}
 use Rattle.steps.specs.Place.{local_at}
-use Rattle.steps.specs.Plan.{listed}
 use Rattle.beam_paths.specs.Path.{Path, Way, way_remaining, ways}
 use Rattle.beam_paths.specs.Step.{has, naming, counts_named, merged, merged_at, key, insert, sorting, kept, extended, stepped}
 use Rattle.beam_paths.specs.Held.{no_path, PathsFor}
@@ -173,7 +172,7 @@ counts-coded {book} {s} {paths} c {d} K names few h =
 
 -- the position that a spot and a book stand for
 abbrev pub position_of : Book → Spot → Position
-position_of book s = record { candidates = listed s.candidates; low = 0; high = 0; price = λ r p c. local_at book s.place r p c }
+position_of book s = record { candidates = s.candidates; low = 0; high = 0; price = λ r p c. local_at book s.place r p c }
 
 pub position-stands : (book : Book) (s : Spot) → Stands book s (position_of book s)
 position-stands book s = record { candidates_are = refl; price_is = λ r p c h m. refl }

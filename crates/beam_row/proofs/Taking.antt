@@ -40,10 +40,10 @@ module _ {book : Book} {s : Spot} {paths : Paths} {k : Kept} {r : Step} (K : Tak
         upto = counts-next-upto K.few K.three K.six stands;
       }
 
-  pub taken-sole : s.candidates.count ≡ 1 → ((q : Position) (xs : List Path) → Stands book s q → PathsFor xs paths → KeptIs q xs (extended q (get_or q.candidates 0 (pos 0)) xs) k) → Taken book s paths r
-  taken-sole one is = taken (λ q xs S W. subst⁻¹ (λ (ys : List Path). KeptIs q xs ys k) (stepped-sole q xs (candidates-length S K.usable ∙ one)) (is q xs S W))
+  pub taken-sole : length s.candidates ≡ 1 → ((q : Position) (xs : List Path) → Stands book s q → PathsFor xs paths → KeptIs q xs (extended q (get_or q.candidates 0 (pos 0)) xs) k) → Taken book s paths r
+  taken-sole one is = taken (λ q xs S W. subst⁻¹ (λ (ys : List Path). KeptIs q xs ys k) (stepped-sole q xs (candidates-length S ∙ one)) (is q xs S W))
 
-  pub taken-several : (s.candidates.count ≡ 1 → ⊥)
+  pub taken-several : (length s.candidates ≡ 1 → ⊥)
       → ((q : Position) (xs : List Path) → Stands book s q → PathsFor xs paths → KeptIs q xs (kept (merged_at q (ways xs q.candidates) (counts_named [] xs))) k) → Taken book s paths r
   taken-several more is =
-      taken (λ q xs S W. subst⁻¹ (λ (ys : List Path). KeptIs q xs ys k) (stepped-several q xs (λ e. more (sym (candidates-length S K.usable) ∙ e))) (is q xs S W))
+      taken (λ q xs S W. subst⁻¹ (λ (ys : List Path). KeptIs q xs ys k) (stepped-several q xs (λ e. more (sym (candidates-length S) ∙ e))) (is q xs S W))

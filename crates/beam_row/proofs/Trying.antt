@@ -16,8 +16,8 @@ use Rattle.least_cost.specs.Position.{Position, nz}
 use Rattle.least_cost.proofs.Trial.{nz-le}
 use Rattle.prices.specs.Book.{Book}
 use Rattle.steps.specs.Place.{context_at, local_in, local_at, distortion_at}
-use Rattle.steps.specs.Plan.{listed, Usable, Each}
-use Rattle.steps.proofs.Listed.{listed-length, usable-listed}
+use Rattle.steps.specs.Plan.{Pickable, Each}
+use Rattle.steps.proofs.Listed.{pickable-back}
 use Rattle.beam_paths.specs.Path.{Path, Way, way_remaining, way_cost, way_levels, ways_of, ways}
 use Rattle.beam_paths.specs.Step.{merged}
 use Rattle.beam_paths.specs.Held.{no_path, PathsFor, Named}
@@ -25,19 +25,19 @@ use Rattle.beam_paths.specs.Entries.{taking, EntryIs}
 use Rattle.beam_paths.specs.declared.Paths.{Paths}
 use Rattle.beam_paths.specs.declared.entry.Entry.{Entry}
 use Rattle.beam_row.specs.Held.{Spot, Stands, Takeable}
-use Rattle.beam_row.specs.Entries.{Priced, way_at, tried, alone, PathIs, Leads, BothOf}
+use Rattle.beam_row.specs.Entries.{way_at, tried, alone, PathIs, Leads, BothOf}
 use Rattle.beam_row.proofs.Growing.{mem-at}
 use Rattle.beam_row.proofs.Reach.{best-other, best-more, byte-way, both-past, both-merged, ways_next, paths-next}
 
 -- the level that the code reads
 abbrev pub read : Spot → ℕ → ℤ
-read s i = to_z w32 (of_z w32 (get_or s.candidates.levels i (pos 0)))
+read s i = to_z w32 (of_z w32 (get_or s.candidates i (pos 0)))
 
 -- tail is the cost of path j with candidate i, whose `nz` is m
-module _ {book : Book} {s : Spot} {q : Position} (xs : List Path) (j : ℕ) {i m : ℕ} {tail : Float} (S : Stands book s q) (U : Usable s.candidates)
-    (J : j < length xs) (I : i < s.candidates.count) (M : m ≡ nz (read s i)) (C : tail ≡ (get_or xs j no_path).cost m) where
+module _ {book : Book} {s : Spot} {q : Position} (xs : List Path) (j : ℕ) {i m : ℕ} {tail : Float} (S : Stands book s q) (U : Pickable s.candidates)
+    (J : j < length xs) (I : i < length s.candidates) (M : m ≡ nz (read s i)) (C : tail ≡ (get_or xs j no_path).cost m) where
   level_is : read s i ≡ get_or q.candidates i (pos 0)
-  level_is = usable-listed U i I ∙ ap (λ (l : List ℤ). get_or l i (pos 0)) (sym S.candidates_are)
+  level_is = pickable-back U i I ∙ ap (λ (l : List ℤ). get_or l i (pos 0)) (sym S.candidates_are)
 
   nz-is : m ≡ nz (get_or q.candidates i (pos 0))
   nz-is = M ∙ ap nz level_is
@@ -45,7 +45,7 @@ module _ {book : Book} {s : Spot} {q : Position} (xs : List Path) (j : ℕ) {i m
   price_is : (context n p : ℕ) → p ≤ 1 → context ≡ context_at s.place n → local_in book s.place context p (read s i) ≡ q.price n p (get_or q.candidates i (pos 0))
   unfolding local_at
   price_is context n p h e =
-      let mem : Memᴰ (read s i) (listed s.candidates) = rw (usable-listed U i I) (mem-at (listed s.candidates) i (pos 0) (rw (listed-length U) I)) in
+      let mem : Memᴰ (read s i) s.candidates = rw (pickable-back U i I) (mem-at s.candidates i (pos 0) I) in
       ap (λ (k : ℕ). local_in book s.place k p (read s i)) e ∙ sym (S.price_is n p (read s i) h mem) ∙ ap (λ (c : ℤ). q.price n p c) level_is
 
   remaining_is : (get_or xs j no_path).remaining + m ≡ way_remaining (way_at q xs j i)
@@ -68,7 +68,7 @@ module _ {book : Book} {s : Spot} {q : Position} (xs : List Path) (j : ℕ) {i m
 
   level-of : (16 * j + i) % 16 < length q.candidates
   level-of =
-      let l : length q.candidates ≡ s.candidates.count = ap length S.candidates_are ∙ listed-length U in
+      let l : length q.candidates ≡ length s.candidates = ap length S.candidates_are in
       let b = below in
       rw l (omega (arith, b, I))
 
@@ -111,7 +111,7 @@ pub record OneMore (book : Book) (s : Spot) (j z i : ℕ) (tail : Float) (e f : 
   pub same : f.remaining ≡ e.remaining
   pub more : (q : Position) (xs : List Path) (ws : List Way) → Stands book s q → Leads xs j z tail e.remaining → BothOf q xs ws e → BothOf q xs (ws ++ (way_at q xs j i ∷ [])) f
 
-module _ {book : Book} {s : Spot} {j z i m : ℕ} {tail : Float} {e f : Entry} (U : Usable s.candidates) (I : i < s.candidates.count) (M : m ≡ nz (read s i)) where
+module _ {book : Book} {s : Spot} {j z i m : ℕ} {tail : Float} {e f : Entry} (U : Pickable s.candidates) (I : i < length s.candidates) (M : m ≡ nz (read s i)) where
   pub more-tried : {context : ℕ} → m ≡ z → context ≡ context_at s.place e.remaining → f ≡ tried book s.place context (read s i) tail (16 * j + i) e → OneMore book s j z i tail e f
   more-tried h k t =
       record {
@@ -127,10 +127,6 @@ module _ {book : Book} {s : Spot} {j z i m : ℕ} {tail : Float} {e f : Entry} (
       }
 
 -- ---- what the code needs
-pub priced-of : {book : Book} {s : Spot} {paths : Paths} {distortion : List Float} → Takeable book s paths → Each (distortion_at s.place) (listed s.candidates) distortion
-    → Priced book s.place s.candidates.count s.candidates.levels distortion
-priced-of K each = record { priced = K.priced; usable = K.usable; each = each }
-
 module _ {book : Book} {s : Spot} {paths : Paths} (K : Takeable book s paths) {j : ℕ} (J : j < paths.count) where
   pub count-few : get_or paths.remaining j 0 < 65536
   count-few = omega (arith, K.left j J, covered-most K.covers)
@@ -144,13 +140,13 @@ module _ {book : Book} {s : Spot} {paths : Paths} (K : Takeable book s paths) {j
   pub sum-coded : {m : ℕ} (q : ℤ) → m ≡ nz q → 0 < get_or paths.remaining j 0 + m → Coefficient s.place.covered (get_or paths.remaining j 0 + m) s.place.k 0
   sum-coded {m} q e h = let one : m ≤ 1 = rw e (nz-le q) in record { some = h; left = omega (arith, K.left j J, one); coded = K.coded; flag = omega arith }
 
-pub distortion_is : (s : Spot) {distortion : List Float} {i : ℕ} → Usable s.candidates → Each (distortion_at s.place) (listed s.candidates) distortion → i < s.candidates.count
+pub distortion_is : (s : Spot) {distortion : List Float} {i : ℕ} → Pickable s.candidates → Each (distortion_at s.place) s.candidates distortion → i < length s.candidates
     → get_or distortion i nan ≡ distortion_at s.place (read s i)
-distortion_is s {distortion} {i} U D I = D.at i (rw (listed-length U) I) ∙ ap (distortion_at s.place) (sym (usable-listed U i I))
+distortion_is s {distortion} {i} U D I = D.at i I ∙ ap (distortion_at s.place) (sym (pickable-back U i I))
 
 -- ---- the loops
-pub candidates-length : {book : Book} {s : Spot} {q : Position} → Stands book s q → Usable s.candidates → length q.candidates ≡ s.candidates.count
-candidates-length S U = ap length S.candidates_are ∙ listed-length U
+pub candidates-length : {book : Book} {s : Spot} {q : Position} → Stands book s q → length q.candidates ≡ length s.candidates
+candidates-length S = ap length S.candidates_are
 
 module _ {xs : List Path} {j n : ℕ} {first second : Float} (P : PathIs xs j n first second) where
   pub leads-zero : {r : ℕ} → n ≡ r → Leads xs j 0 first r
@@ -189,9 +185,9 @@ module _ {q : Position} {xs : List Path} {paths : Paths} {e : Entry} (W : PathsF
   pub paths-all : {j n : ℕ} → j ≡ paths.count → e.remaining ≡ n → BothOf q xs (ways (take j xs) q.candidates) e → EntryIs q xs (merged q (ways xs q.candidates) n) e
   paths-all {j} last r w = both-merged r (subst (λ (us : List Path). BothOf q xs (ways us q.candidates) e) (take_all j xs (omega (arith, W.count_is, last))) w)
 
-module _ {book : Book} {s : Spot} {q : Position} {xs : List Path} (ws : List Way) (x : Path) {e : Entry} {i : ℕ} (S : Stands book s q) (U : Usable s.candidates) where
-  pub candidates-more : i < s.candidates.count → BothOf q xs ((ws ++ ways_of x (take i q.candidates)) ++ (record { path = x; level = get_or q.candidates i (pos 0) } ∷ [])) e → BothOf q xs (ws ++ ways_of x (take (i + 1) q.candidates)) e
-  candidates-more I w = subst (λ (us : List Way). BothOf q xs us e) (ways_next ws x q.candidates i (rw (candidates-length S U) I)) w
+module _ {book : Book} {s : Spot} {q : Position} {xs : List Path} (ws : List Way) (x : Path) {e : Entry} {i : ℕ} (S : Stands book s q) where
+  pub candidates-more : i < length s.candidates → BothOf q xs ((ws ++ ways_of x (take i q.candidates)) ++ (record { path = x; level = get_or q.candidates i (pos 0) } ∷ [])) e → BothOf q xs (ws ++ ways_of x (take (i + 1) q.candidates)) e
+  candidates-more I w = subst (λ (us : List Way). BothOf q xs us e) (ways_next ws x q.candidates i (rw (candidates-length S) I)) w
 
-  pub candidates-all : i ≡ s.candidates.count → BothOf q xs (ws ++ ways_of x (take i q.candidates)) e → BothOf q xs (ws ++ ways_of x q.candidates) e
-  candidates-all last w = subst (λ (cs : List ℤ). BothOf q xs (ws ++ ways_of x cs) e) (take_all i q.candidates (omega (arith, candidates-length S U, last))) w
+  pub candidates-all : i ≡ length s.candidates → BothOf q xs (ws ++ ways_of x (take i q.candidates)) e → BothOf q xs (ws ++ ways_of x q.candidates) e
+  candidates-all last w = subst (λ (cs : List ℤ). BothOf q xs (ws ++ ways_of x cs) e) (take_all i q.candidates (omega (arith, candidates-length S, last))) w

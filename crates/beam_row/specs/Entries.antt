@@ -3,31 +3,17 @@ use Rattle.std.specs.Prelude.{ℕ, ◌+◌, ◌/◌, ◌%◌, ◌<◌, ◌≡◌
 use Rattle.std.specs.Float.{inf, binary32}
 use Rattle.std.specs.Float.Ieee.{add}
 use Rattle.std.specs.Float.Ieee.Scale.{finite}
-use Rattle.candidates.specs.Candidates.{in_array}
 use Rattle.least_cost.specs.Position.{Position}
 use Rattle.least_cost.specs.Search.{least, holder}
 use Rattle.prices.specs.Book.{Book}
-use Rattle.prices.specs.Checks.{book_refusal}
-use Rattle.steps.specs.Place.{distortion_at, context_at, local_in}
-use Rattle.steps.specs.Plan.{listed, Usable, Each}
+use Rattle.steps.specs.Place.{context_at, local_in}
 use Rattle.steps.specs.declared.Place.{Place}
 use Rattle.beam_paths.specs.Path.{Path, Way, way_remaining, way_cost, no_way}
 use Rattle.beam_paths.specs.Step.{reaching}
 use Rattle.beam_paths.specs.Held.{no_path, way_of}
 use Rattle.steps.specs.Best.{considered}
-use Rattle.beam_paths.specs.declared.Paths.{Paths}
 use Rattle.steps.specs.declared.best.Best.{Best}
 use Rattle.beam_paths.specs.declared.entry.Entry.{Entry}
-
--- the paths from their parts
-abbrev pub gathered : ℕ → List ℕ → List Float → Paths
-gathered count remaining costs = record { count = count; remaining = remaining; costs = costs }
-
--- what prices the candidates: a book that passed, levels that have a bias, and the distortion of each
-pub record Priced (book : Book) (x : Place) (count : ℕ) (levels : List ℤ) (distortion : List Float) : Type 0 where
-  pub priced : book_refusal book ≡ 0
-  pub usable : Usable (in_array count levels)
-  pub each : Each (distortion_at x) (listed (in_array count levels)) distortion
 
 -- path j has this count, and these costs for `prev` 0 and 1
 pub record PathIs (xs : List Path) (j remaining : ℕ) (first second : Float) : Type 0 where

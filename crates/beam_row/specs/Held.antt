@@ -2,13 +2,11 @@
 use Rattle.std.specs.Prelude.{ℕ, suc, ◌+◌, ◌*◌, ◌≤◌, ◌<◌, ◌≡◌, ℤ, length, get_or}
 use mathlib.Core.List.{List, Memᴰ}
 use Rattle.ac_context.specs.Contexts.{Covered}
-use Rattle.candidates.specs.Candidates.{in_array}
-use Rattle.candidates.specs.declared.Candidates.{Candidates}
 use Rattle.least_cost.specs.Position.{Position}
 use Rattle.prices.specs.Book.{Book}
 use Rattle.prices.specs.Checks.{book_refusal}
 use Rattle.steps.specs.Place.{local_at}
-use Rattle.steps.specs.Plan.{listed, Usable}
+use Rattle.steps.specs.Plan.{Pickable}
 use Rattle.steps.specs.declared.Place.{Place}
 use Rattle.beam_paths.specs.Path.{Path}
 use Rattle.beam_paths.specs.Step.{stepped}
@@ -19,20 +17,20 @@ use Rattle.beam_paths.specs.declared.Step.{Step}
 -- a position: what prices a level there, and its candidates
 pub record Spot : Type 0 where
   pub place : Place
-  pub candidates : Candidates
+  pub candidates : List ℤ
 
-abbrev pub spot_of : Place → ℕ → List ℤ → Spot
-spot_of x count levels = record { place = x; candidates = in_array count levels }
+abbrev pub spot_of : Place → List ℤ → Spot
+spot_of x levels = record { place = x; candidates = levels }
 
 -- q is the position that the spot and the book stand for
 pub record Stands (book : Book) (s : Spot) (q : Position) : Type 0 where
-  pub candidates_are : q.candidates ≡ listed s.candidates
-  pub price_is : (r p : ℕ) (c : ℤ) → p ≤ 1 → Memᴰ c (listed s.candidates) → q.price r p c ≡ local_at book s.place r p c
+  pub candidates_are : q.candidates ≡ s.candidates
+  pub price_is : (r p : ℕ) (c : ℤ) → p ≤ 1 → Memᴰ c s.candidates → q.price r p c ≡ local_at book s.place r p c
 
 -- what a step is worked out from: a book that passed, candidates, at most three paths, and contexts that exist for each path's count and the next one
 pub record Takeable (book : Book) (s : Spot) (paths : Paths) : Type 0 where
   pub priced : book_refusal book ≡ 0
-  pub usable : Usable s.candidates
+  pub pickable : Pickable s.candidates
   pub covers : Covered s.place.covered s.place.log2
   pub coded : s.place.covered ≤ s.place.k
   pub offset : s.place.offset + 457 < 14850

@@ -5,22 +5,34 @@ ghost use Rattle.bias.specs.Level.{is_level};
 ghost use Rattle.least_cost.specs.Position.{Position};
 ghost use Rattle.prices.specs.Contents.{contents};
 ghost use Rattle.steps.specs.Place.{distortion_at, context_at};
+ghost use Rattle.steps.specs.Plan.{Each};
 ghost use Rattle.beam_paths.specs.Path.{Path, Way, ways_of, ways};
 ghost use Rattle.beam_paths.specs.Step.{merged};
 ghost use Rattle.beam_paths.specs.Held.{no_path, PathsFor};
 ghost use Rattle.beam_paths.specs.Entries.{EntryIs};
 ghost use Rattle.beam_row.specs.Held.{spot_of, Stands, Takeable};
-ghost use Rattle.beam_row.specs.Entries.{gathered, Priced, PathIs, Leads, tried, alone, BothOf};
+ghost use Rattle.beam_row.specs.Entries.{PathIs, Leads, tried, alone, BothOf};
 
+use beam_paths::Paths;
 use beam_paths::entry::Entry;
 use prices::book::PriceBook;
 use steps::Place;
 use steps::best::Best;
+use steps::reading::CandidateList;
+
+// A position's candidates with what weighs them: the prices, and the distortion of each.
+#[derive(Clone, Copy)]
+pub(crate) struct Weighed<'a> {
+    pub book: &'a PriceBook<'a>,
+    pub place: Place,
+    pub candidates: CandidateList<'a>,
+    pub distortion: &'a [f32; 5],
+    ghost each: { Each (distortion_at place) candidates.levels.now distortion.now },
+}
 
 // One candidate more. Both values of `prev` are priced together, and each keeps its own best.
 fn try_way(
-    book: &PriceBook,
-    place: Place,
+    weighed: &Weighed,
     context: usize,
     level: i32,
     distortion: f32,
@@ -29,42 +41,38 @@ fn try_way(
     entry: Entry,
 ) -> Entry
     requires context_bound { (context + 1 < 14850) × T (is_level level) }
-    requires distortion_value { distortion ≡ distortion_at place level }
-    ensures { result ≡ tried (contents book.now) place context level tail choice entry }
+    requires distortion_value { distortion ≡ distortion_at weighed.now.place level }
+    ensures { result ≡ tried (contents weighed.now.book.now) weighed.now.place context level tail choice entry }
 {
-    let pair = place.local_pair(book, context, level, distortion);
+    let place = weighed.place;
+    let pair = place.local_pair(weighed.book, context, level, distortion);
     entry.consider(pair.first + tail, pair.second + tail, choice)
 }
 
 // The candidates of one kind, 0 or nonzero, in front of path j: those that lead it to the entry's count.
 fn try_levels(
-    book: &PriceBook,
-    place: Place,
-    levels: &[i32; 5],
-    distortion: &[f32; 5],
-    count: usize,
+    weighed: &Weighed,
     context: usize,
     nonzero: usize,
     tail: f32,
     j: usize,
     entry: Entry,
 ) -> Entry
-    requires priced { Priced (contents book.now) place count levels.now distortion.now }
-    requires context_value { (context ≡ context_at place entry.remaining) × (context + 1 < 14850) }
+    requires context_value { (context ≡ context_at weighed.now.place entry.remaining) × (context + 1 < 14850) }
     requires j_bound { j < 3 }
     ensures remaining_value { result.remaining ≡ entry.remaining }
-    ensures both_of { (q : Position) (xs : List Path) (ws : List Way) → Stands (contents book.now) (spot_of place count levels.now) q → Leads xs j nonzero tail entry.remaining
+    ensures both_of { (q : Position) (xs : List Path) (ws : List Way) → Stands (contents weighed.now.book.now) (spot_of weighed.now.place weighed.now.candidates.levels.now) q → Leads xs j nonzero tail entry.remaining
         → BothOf q xs ws entry → BothOf q xs (ws ++ ways_of (get_or xs j no_path) q.candidates) result }
 {
+    let candidates = weighed.candidates;
     let mut best = entry;
-    for (i, &level) in levels[..count].iter().enumerate() {
+    for (i, &level) in candidates.levels.iter().enumerate() {
         if steps::nonzero(level) == nonzero {
             best = try_way(
-                book,
-                place,
+                weighed,
                 context,
                 level,
-                distortion[i],
+                weighed.distortion[i],
                 tail,
                 (16 * j + i) as u32,
                 best,
@@ -76,11 +84,7 @@ fn try_levels(
 
 // The candidates in front of path j, where it leads to the entry's count.
 fn try_path(
-    book: &PriceBook,
-    place: Place,
-    levels: &[i32; 5],
-    distortion: &[f32; 5],
-    count: usize,
+    weighed: &Weighed,
     context: usize,
     remaining: usize,
     first: f32,
@@ -88,44 +92,29 @@ fn try_path(
     j: usize,
     entry: Entry,
 ) -> Entry
-    requires priced { Priced (contents book.now) place count levels.now distortion.now }
-    requires context_value { (context ≡ context_at place entry.remaining) × (context + 1 < 14850) }
+    requires context_value { (context ≡ context_at weighed.now.place entry.remaining) × (context + 1 < 14850) }
     requires remaining_bound { (remaining < 65536) × (j < 3) }
     ensures remaining_value { result.remaining ≡ entry.remaining }
-    ensures both_of { (q : Position) (xs : List Path) (ws : List Way) → Stands (contents book.now) (spot_of place count levels.now) q → PathIs xs j remaining first second
+    ensures both_of { (q : Position) (xs : List Path) (ws : List Way) → Stands (contents weighed.now.book.now) (spot_of weighed.now.place weighed.now.candidates.levels.now) q → PathIs xs j remaining first second
         → BothOf q xs ws entry → BothOf q xs (ws ++ ways_of (get_or xs j no_path) q.candidates) result }
 {
     if remaining == entry.remaining {
-        return try_levels(
-            book, place, levels, distortion, count, context, 0, first, j, entry,
-        );
+        return try_levels(weighed, context, 0, first, j, entry);
     }
     if remaining + 1 == entry.remaining {
-        return try_levels(
-            book, place, levels, distortion, count, context, 1, second, j, entry,
-        );
+        return try_levels(weighed, context, 1, second, j, entry);
     }
     entry
 }
 
 // The path of count n: for either `prev` the first least of the ways that reach it.
-pub(crate) fn merge_count(
-    book: &PriceBook,
-    place: Place,
-    levels: &[i32; 5],
-    distortion: &[f32; 5],
-    count: usize,
-    paths: usize,
-    remaining: &[usize],
-    costs: &[f32],
-    n: usize,
-) -> Entry
-    requires takeable { Takeable (contents book.now) (spot_of place count levels.now) (gathered paths remaining.now costs.now) }
-    requires priced { Priced (contents book.now) place count levels.now distortion.now }
-    requires k_bound { n + place.k ≤ 64 * place.covered }
-    ensures { (q : Position) (xs : List Path) → Stands (contents book.now) (spot_of place count levels.now) q → PathsFor xs (gathered paths remaining.now costs.now)
+pub(crate) fn merge_count(weighed: &Weighed, paths: &Paths, n: usize) -> Entry
+    requires takeable { Takeable (contents weighed.now.book.now) (spot_of weighed.now.place weighed.now.candidates.levels.now) paths.now }
+    requires k_bound { n + weighed.now.place.k ≤ 64 * weighed.now.place.covered }
+    ensures { (q : Position) (xs : List Path) → Stands (contents weighed.now.book.now) (spot_of weighed.now.place weighed.now.candidates.levels.now) q → PathsFor xs paths.now
         → EntryIs q xs (merged q (ways xs q.candidates) n) result }
 {
+    let place = weighed.place;
     let context = place.context(n);
     let none = Best {
         cost: costs::infinity(),
@@ -136,17 +125,13 @@ pub(crate) fn merge_count(
         first: none,
         second: none,
     };
-    for j in 0..paths {
+    for j in 0..paths.count {
         entry = try_path(
-            book,
-            place,
-            levels,
-            distortion,
-            count,
+            weighed,
             context,
-            remaining[j],
-            costs[2 * j],
-            costs[2 * j + 1],
+            paths.remaining[j],
+            paths.costs[2 * j],
+            paths.costs[2 * j + 1],
             j,
             entry,
         );

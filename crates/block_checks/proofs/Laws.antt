@@ -106,9 +106,6 @@ unfolding block_refusal form_refusal content_refusal form_checks first_refused
 form-passed w v b e =
     in-turn (form_checks b) (later_checks w v b) 0 ∙ all_pass (form_checks b) (first_refused (later_checks w v b) 0) refl e
 
-pub width-refused : (w : ℕ) (v : Window) (b : Block) → form_refusal b ≡ 0 → valid_width w ≡ false → 26 ≡ block_refusal w v b 0
-width-refused w v b e t = sym (form-passed w v b e ∙ ap (λ (x : Bool). cond x (content_refusal v b) 26) t)
-
 pub width-passed : (w : ℕ) (v : Window) (b : Block) → form_refusal b ≡ 0 → valid_width w ≡ true → block_refusal w v b 0 ≡ content_refusal v b
 width-passed w v b e t = form-passed w v b e ∙ ap (λ (x : Bool). cond x (content_refusal v b) 26) t
 

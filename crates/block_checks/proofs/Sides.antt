@@ -1,11 +1,11 @@
 -- The sides of a block: powers of two, and so is their product. Assumes nothing.
 use mathlib.Core.Path.{◌≡◌, refl, sym, ◌∙◌, ap₂}
-use mathlib.Core.Bool.{Bool, true, false, ◌||◌, or-false, false≢true}
+use mathlib.Core.Bool.{Bool, true, false, ◌||◌, false≢true}
 use mathlib.Core.Logic.{◌⊎◌, inl, inr, ⊎_elim}
 use Prim.Native.Nat.{ℕ, zero, suc, ◌+◌, ◌*◌, ◌^◌, ◌≤◌, ◌<◌}
 use native.Mathlib.Nat.{mul-le-mul}
 use native.Mathlib.Omega.{arith}
-use borrow.Author.Tests.{eqb-true, ne_eqb}
+use borrow.Author.Tests.{eqb-true}
 use lib.Dec.{eqb}
 use lib.Pow.{pow-add, pow_mono}
 use Rattle.ac_context.specs.Contexts.{is_power_below, Covered}
@@ -24,11 +24,6 @@ power-of (suc n) x e =
 
 pub side-most : (x : ℕ) → is_power_below 6 x ≡ true → x ≤ 32
 side-most x e = let w = power-of 6 x e in rw w.2 (pow_mono {j = 5} (omega arith))
-
--- the last test of a side
-pub last-side : (x : ℕ) → (x ≡ 32 → ⊥) → (x ≡ 16 → ⊥) → (x ≡ 8 → ⊥) → (x ≡ 4 → ⊥) → (x ≡ 2 → ⊥) → eqb x 1 ≡ is_power_below 6 x
-unfolding is_power_below
-last-side x a b c d e = rw (ne_eqb x 32 a, ne_eqb x 16 b, ne_eqb x 8 c, ne_eqb x 4 d, ne_eqb x 2 e) (sym (or-false (eqb x 1)))
 
 pub product-most : (x y : ℕ) → is_power_below 6 x ≡ true → is_power_below 6 y ≡ true → x * y ≤ 1024
 product-most x y e d = mul-le-mul (side-most x e) (side-most y d)

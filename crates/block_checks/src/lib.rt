@@ -1,7 +1,7 @@
 // Checks 7 to 14, 18 and 26, in the order in which they are made.
 #![tactic(auto)]
 
-ghost use Rattle.std.specs.Prelude.{◌≡◌, true, ◌&&◌, ◌+◌, ◌*◌, ◌≤◌, eqb, leb, pos, Float, length, get_or};
+ghost use Rattle.std.specs.Prelude.{◌≡◌, true, ◌&&◌, ◌+◌, ◌*◌, ◌≤◌, ◌<◌, eqb, leb, pos, Float, length, get_or};
 ghost use Rattle.ac_context.specs.Contexts.{is_power_below};
 ghost use Rattle.block.specs.Block.{covered, ideal_at};
 ghost use Rattle.block.specs.Data.{block_with};
@@ -56,7 +56,7 @@ pub fn fits(strategy: u8, covered_blocks: usize) -> bool
     requires { strategy ≤ 26 }
     ensures { result ≡ eqb covered_blocks (get_or strategy_covered strategy 0) }
 {
-    covered_blocks == STRATEGY_COVERED[strategy as usize] as usize
+    covered_blocks == usize::from(STRATEGY_COVERED[usize::from(strategy)])
 }
 
 // 0 for a level within ±32,767, else 1.
@@ -64,7 +64,7 @@ fn outside(level: i32) -> u32
     ensures level_value { is_current level ≡ eqb result 0 }
     ensures upper_bound { result ≤ 1 }
 {
-    if candidates::is_current(level) { 0 } else { 1 }
+    u32::from(!candidates::is_current(level))
 }
 
 // Whether every level is within ±32,767, the first c of the scan among them. In the list's own order and with no early exit the loop is vectorised.
@@ -165,13 +165,26 @@ fn valid_width(width: u32) -> bool
     1 <= width && width <= 12
 }
 
-// Checks 7 to 13, 18 and 26, with a band of half-width `width` and a window of at most `cap` positions.
+// How far a search goes: the half-width of the trellis's band, and the most positions of a window.
+#[derive(Clone, Copy)]
+pub struct Limits {
+    pub half_width: u32,
+    pub cap: usize,
+    ghost some: { 0 < cap },
+}
+
+// Checks 7 to 13, 18 and 26, of any half-width and cap.
 #[tactic(auto, unfolding(crate::specs::Parts::form_refusal, crate::specs::Parts::content_refusal, block::specs::Block::covered, block::specs::Checks::form_checks, block::specs::Checks::block_refusal, laws::specs::Refusals::first_refused))]
-pub fn check_block(block: &BlockData, levels: &[i32], width: u32, cap: usize) -> Result<(), Refusal>
-    ensures { let b = block_with block.now levels.now in code_of result ≡ block_refusal width (window_for cap (covered b)) b 0 }
+pub fn check_block(
+    block: &BlockData,
+    levels: &[i32],
+    half_width: u32,
+    cap: usize,
+) -> Result<(), Refusal>
+    ensures { let b = block_with block.now levels.now in code_of result ≡ block_refusal half_width (window_for cap (covered b)) b 0 }
 {
     check_form(block, levels)?;
-    if !valid_width(width) {
+    if !valid_width(half_width) {
         return Err(Refusal::HalfWidth);
     }
     check_content(block, levels, cap)

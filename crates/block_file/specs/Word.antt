@@ -15,15 +15,17 @@ unfoldable pub listed : {A : Type 0} → (ℕ → A) → ℕ → List A
 listed f zero = []
 listed f (suc n) = f 0 ∷ listed (λ i. f (suc i)) n
 
--- the n bytes, numbers, floats or levels that stand from `start` on
+-- the float, and the level, of these four bytes
+abbrev pub float_at : List ℕ → ℕ → Float
+float_at bytes at = of_bits binary32 (word_at bytes at)
+
+abbrev pub level_at : List ℕ → ℕ → ℤ
+level_at bytes at = to_z w32 (word_at bytes at)
+
+-- the n bytes that stand from `start` on
 abbrev pub bytes_from : List ℕ → ℕ → ℕ → List ℕ
 bytes_from bytes start = listed (λ i. get_or bytes (start + i) 0)
 
-abbrev pub words_from : List ℕ → ℕ → ℕ → List ℕ
-words_from bytes start = listed (λ i. word_at bytes (start + 4 * i))
-
-abbrev pub floats_from : List ℕ → ℕ → ℕ → List Float
-floats_from bytes start = listed (λ i. of_bits binary32 (word_at bytes (start + 4 * i)))
-
-abbrev pub levels_from : List ℕ → ℕ → ℕ → List ℤ
-levels_from bytes start = listed (λ i. to_z w32 (word_at bytes (start + 4 * i)))
+-- the n entries of four bytes, by what such bytes hold
+abbrev pub entries_from : {A : Type 0} → (List ℕ → ℕ → A) → List ℕ → ℕ → ℕ → List A
+entries_from held bytes start = listed (λ i. held bytes (start + 4 * i))

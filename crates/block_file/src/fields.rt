@@ -10,22 +10,13 @@ use bias::DequantBias;
 use block::Shape;
 use weights::Settings;
 
-fn byte_at(bytes: &[u8], at: usize) -> u32
-    requires { at < length bytes.now }
-    ensures { (result ≡ get_or bytes.now at 0) × (result < 256) }
-{
-    u32::from(bytes[at])
-}
-
 // The number that the four bytes from `at` on hold, the lowest byte first.
+#[tactic(auto, unfolding(crate::specs::Word::word_at))]
 pub fn word_at(bytes: &[u8], at: usize) -> u32
     requires { at + 4 ≤ length bytes.now }
     ensures { result ≡ word_at bytes.now at }
 {
-    byte_at(bytes, at)
-        + 256 * byte_at(bytes, at + 1)
-        + 65536 * byte_at(bytes, at + 2)
-        + 16777216 * byte_at(bytes, at + 3)
+    u32::from_le_bytes([bytes[at], bytes[at + 1], bytes[at + 2], bytes[at + 3]])
 }
 
 // The float of these bits. Rattle knows one NaN and gives it no bits, so that every pattern of a NaN is read as that one.
@@ -50,10 +41,7 @@ pub fn float_at(bytes: &[u8], at: usize) -> f32
 fn level_of(bits: u32) -> i32
     ensures { result ≡ to_z w32 bits }
 {
-    if bits < 0x8000_0000 {
-        return bits as i32;
-    }
-    -1 - (0xffff_ffff - bits) as i32
+    bits.cast_signed()
 }
 
 pub fn level_at(bytes: &[u8], at: usize) -> i32
@@ -61,15 +49,6 @@ pub fn level_at(bytes: &[u8], at: usize) -> i32
     ensures { result ≡ to_z w32 (word_at bytes.now at) }
 {
     level_of(word_at(bytes, at))
-}
-
-// A room's length, of which no more than `most` is lent.
-pub fn room_at(bytes: &[u8], at: usize, most: usize) -> usize
-    requires { at + 4 ≤ length bytes.now }
-    ensures { result ≤ most }
-{
-    let length = word_at(bytes, at) as usize;
-    length.min(most)
 }
 
 // What a block's record holds before its rooms and lists.

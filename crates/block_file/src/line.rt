@@ -3,11 +3,6 @@ ghost use Rattle.std.specs.Prelude.{◌≡◌, ◌+◌, ◌≤◌, length, nat_a
 
 use block::{Answer, Picked};
 
-// The room that the head of a line takes at most, and a level that changed.
-pub const HEAD_ROOM: usize = 80;
-
-pub const CHANGE_ROOM: usize = 64;
-
 // Puts `text` at `at`; answers where the next byte goes.
 fn put(out: &mut [u8], at: usize, text: &[u8]) -> usize
     requires { at + length text.now ≤ length out.old }

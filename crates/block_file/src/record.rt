@@ -1,9 +1,9 @@
-// Where a record's lists stand, and whether it is whole.
-ghost use Rattle.std.specs.Prelude.{◌≡◌, ◌+◌, ◌*◌, ◌≤◌, length};
-ghost use Rattle.block_file.specs.Within.{Within, Measures};
-ghost use Rattle.block_file.specs.declared.record.Kind.TheVariants.{Book, Block, Width, Short, Unreadable};
+// The records of a block file: what bytes begin with, and where its lists stand.
+ghost use Rattle.std.specs.Prelude.{◌≡◌, ◌+◌, ◌*◌, ◌≤◌, length, IfOk};
+ghost use Rattle.block_file.specs.Within.{BookInside, BlockInside, RecordInside, RoomsWithin, length_of};
 
-use crate::fields::{HEAD, word_at};
+use crate::fields::{self, HEAD, Head, word_at};
+use block_checks::RoomLengths;
 
 // The longest lists that are read: a book of 258 clusters and a block of 65,536 levels, and some entries more.
 pub const MAP: usize = 14912;
@@ -26,76 +26,47 @@ const BYTE: usize = 1;
 
 const WORD: usize = 4;
 
-// A list is whole, cut short where the bytes end, or longer than may be.
+// Why bytes begin with no whole record: they end before it does; or it is unreadable, since its tag is unknown, or one of its lists or rooms longer than may be.
 #[derive(Clone, Copy, PartialEq, Eq)]
-pub enum State {
-    Whole,
+pub enum Flaw {
     Short,
-    TooLong,
+    Unreadable,
 }
 
-// A list: where its entries start, how many there are, and where the next field stands. All 0 unless it is whole.
+// A list: where its entries start, how many there are, and where the next field stands.
 #[derive(Clone, Copy)]
 pub struct List {
-    pub state: State,
     pub start: usize,
     pub count: usize,
     pub end: usize,
 }
 
-fn no_list(state: State) -> List
-    ensures { (result.start ≡ 0) × ((result.count ≡ 0) × (result.end ≡ 0)) }
+// The list whose length stands at `at`, of entries of `size` bytes each.
+fn list_at(bytes: &[u8], at: usize, most: usize, size: usize) -> Result<List, Flaw>
+    requires { (at ≤ length bytes.now) × ((most ≤ 66048) × (size ≤ 4)) }
+    ensures { IfOk result (λ list. (list.start + size * list.count ≤ list.end) × ((list.end ≤ length bytes.now) × (list.count ≤ most))) }
 {
-    List {
-        state,
-        start: 0,
-        count: 0,
-        end: 0,
-    }
-}
-
-// The list that follows another one, of entries of `size` bytes each.
-fn list_after(bytes: &[u8], before: List, most: usize, size: usize) -> List
-    requires { (before.end ≤ length bytes.now) × ((most ≤ 66048) × (size ≤ 4)) }
-    ensures { (result.start + size * result.count ≤ result.end) × ((result.end ≤ length bytes.now) × (result.count ≤ most)) }
-{
-    if before.state != State::Whole {
-        return no_list(before.state);
-    }
-    let at = before.end;
     if bytes.len() - at < 4 {
-        return no_list(State::Short);
+        return Err(Flaw::Short);
     }
     let count = word_at(bytes, at) as usize;
     if most < count {
-        return no_list(State::TooLong);
+        return Err(Flaw::Unreadable);
     }
     if bytes.len() - at - 4 < size * count {
-        return no_list(State::Short);
+        return Err(Flaw::Short);
     }
-    List {
-        state: State::Whole,
+    Ok(List {
         start: at + 4,
         count,
         end: at + 4 + size * count,
-    }
+    })
 }
 
-// What comes before the first list, as an empty list.
-fn up_to(end: usize) -> List
-    ensures { result.end ≡ end }
-{
-    List {
-        state: State::Whole,
-        start: end,
-        count: 0,
-        end,
-    }
-}
-
-// A book's record. It is whole where the last list is, and ends where that does.
+// A book's record: its number of clusters and its lists. It ends where the last of them does.
 #[derive(Clone, Copy)]
 pub struct BookRecord {
+    pub clusters: u32,
     pub map: List,
     pub configs: List,
     pub symbols: List,
@@ -103,168 +74,125 @@ pub struct BookRecord {
 }
 
 // The length of the tag and the number of clusters, which begin a book's record.
-pub const BOOK_HEAD: usize = 5;
+const BOOK_HEAD: usize = 5;
 
-// The book's record that `bytes` begins with.
-pub fn book_record(bytes: &[u8]) -> BookRecord
-    requires { 5 ≤ length bytes.now }
-    ensures count_in_bounds { (result.map.start + result.map.count ≤ length bytes.now) × (result.map.count ≤ 14912) }
-    ensures count_in_bounds_2 { (result.configs.start + result.configs.count ≤ length bytes.now) × (result.configs.count ≤ 774) }
-    ensures count_in_bounds_3 { (result.symbols.start + 4 * result.symbols.count ≤ length bytes.now) × (result.symbols.count ≤ 33024) }
-    ensures count_in_bounds_4 { (result.ready.start + 4 * result.ready.count ≤ length bytes.now) × ((result.ready.count ≤ 66048) × (result.ready.end ≤ length bytes.now)) }
+fn book_record(bytes: &[u8]) -> Result<BookRecord, Flaw>
+    ensures { IfOk result (λ book. BookInside book (length bytes.now)) }
 {
-    let map = list_after(bytes, up_to(BOOK_HEAD), MAP, BYTE);
-    let configs = list_after(bytes, map, CONFIGS, BYTE);
-    let symbols = list_after(bytes, configs, SYMBOLS, WORD);
-    let ready = list_after(bytes, symbols, READY, WORD);
-    BookRecord {
+    if bytes.len() < BOOK_HEAD {
+        return Err(Flaw::Short);
+    }
+    let map = list_at(bytes, BOOK_HEAD, MAP, BYTE)?;
+    let configs = list_at(bytes, map.end, CONFIGS, BYTE)?;
+    let symbols = list_at(bytes, configs.end, SYMBOLS, WORD)?;
+    let ready = list_at(bytes, symbols.end, READY, WORD)?;
+    Ok(BookRecord {
+        clusters: word_at(bytes, 1),
         map,
         configs,
         symbols,
         ready,
-    }
+    })
 }
 
-// A block's record, as a book's.
+// A room's length, of which no more than `most` may be asked for.
+fn room_at(bytes: &[u8], at: usize, most: usize) -> Result<usize, Flaw>
+    requires { at + 4 ≤ length bytes.now }
+    ensures { IfOk result (λ n. n ≤ most) }
+{
+    let asked = word_at(bytes, at) as usize;
+    if most < asked {
+        return Err(Flaw::Unreadable);
+    }
+    Ok(asked)
+}
+
+// The lengths of the rooms that a block's record asks for.
+fn rooms_at(bytes: &[u8]) -> Result<RoomLengths, Flaw>
+    requires { 53 ≤ length bytes.now }
+    ensures { IfOk result RoomsWithin }
+{
+    Ok(RoomLengths {
+        choices: room_at(bytes, 41, CHOICES)?,
+        row_a: room_at(bytes, 45, ROW)?,
+        row_b: room_at(bytes, 49, ROW)?,
+    })
+}
+
+// A block's record: what comes before its lists, and these.
 #[derive(Clone, Copy)]
 pub struct BlockRecord {
+    pub head: Head,
+    pub rooms: RoomLengths,
     pub levels: List,
     pub scan: List,
     pub source: List,
     pub inverse: List,
 }
 
-// What comes before the levels; too long where a room is.
-fn before_levels(bytes: &[u8]) -> List
-    requires { 53 ≤ length bytes.now }
-    ensures { result.end ≤ length bytes.now }
+fn block_record(bytes: &[u8]) -> Result<BlockRecord, Flaw>
+    ensures { IfOk result (λ block. BlockInside block (length bytes.now)) }
 {
-    if CHOICES < word_at(bytes, 41) as usize {
-        return no_list(State::TooLong);
+    if bytes.len() < HEAD {
+        return Err(Flaw::Short);
     }
-    if ROW < word_at(bytes, 45) as usize {
-        return no_list(State::TooLong);
-    }
-    if ROW < word_at(bytes, 49) as usize {
-        return no_list(State::TooLong);
-    }
-    up_to(HEAD)
-}
-
-// The block's record that `bytes` begins with.
-pub fn block_record(bytes: &[u8]) -> BlockRecord
-    requires { 53 ≤ length bytes.now }
-    ensures { Within result (length bytes.now) × (result.inverse.end ≤ length bytes.now) }
-{
-    let levels = list_after(bytes, before_levels(bytes), LEVELS, WORD);
-    let scan = list_after(bytes, levels, LEVELS, WORD);
-    let source = list_after(bytes, scan, LEVELS, WORD);
-    let inverse = list_after(bytes, source, LEVELS, WORD);
-    BlockRecord {
+    let rooms = rooms_at(bytes)?;
+    let levels = list_at(bytes, HEAD, LEVELS, WORD)?;
+    let scan = list_at(bytes, levels.end, LEVELS, WORD)?;
+    let source = list_at(bytes, scan.end, LEVELS, WORD)?;
+    let inverse = list_at(bytes, source.end, LEVELS, WORD)?;
+    Ok(BlockRecord {
+        head: fields::head_at(bytes),
+        rooms,
         levels,
         scan,
         source,
         inverse,
-    }
+    })
 }
 
 // The length of a half-width's record: tag and number.
-pub const WIDTH_RECORD: usize = 5;
+const WIDTH_RECORD: usize = 5;
 
-// What bytes begin with: a record of a kind; one that is cut short; or one that is unreadable, since its tag is unknown, or one of its lists or rooms longer than
-// may be.
-#[derive(Clone, Copy, PartialEq, Eq)]
-pub enum Kind {
-    Book,
-    Block,
-    Width,
-    Short,
-    Unreadable,
-}
-
-// What bytes begin with, and its length, 0 unless it is a whole record.
-#[derive(Clone, Copy)]
-pub struct Measured {
-    pub kind: Kind,
-    pub length: usize,
-}
-
-fn cut_short() -> Measured
-    ensures { (result.kind ≡ Short) × (result.length ≡ 0) }
-{
-    Measured {
-        kind: Kind::Short,
-        length: 0,
-    }
-}
-
-fn unreadable() -> Measured
-    ensures { (result.kind ≡ Unreadable) × (result.length ≡ 0) }
-{
-    Measured {
-        kind: Kind::Unreadable,
-        length: 0,
-    }
-}
-
-// The record of this kind whose last list is this.
-fn ended_by(last: List, kind: Kind) -> Measured
-    ensures { (result.length ≤ last.end) × ((result.kind ≡ Book → kind ≡ Book) × ((result.kind ≡ Block → kind ≡ Block) × (result.kind ≡ Width → kind ≡ Width))) }
-{
-    match last.state {
-        State::Whole => Measured {
-            kind,
-            length: last.end,
-        },
-        State::Short => cut_short(),
-        State::TooLong => unreadable(),
-    }
-}
-
-fn measure_book(bytes: &[u8]) -> Measured
-    ensures { Measures bytes.now result }
-{
-    if bytes.len() < BOOK_HEAD {
-        return cut_short();
-    }
-    let lists = book_record(bytes);
-    ended_by(lists.ready, Kind::Book)
-}
-
-fn measure_block(bytes: &[u8]) -> Measured
-    ensures { Measures bytes.now result }
-{
-    if bytes.len() < HEAD {
-        return cut_short();
-    }
-    let lists = block_record(bytes);
-    ended_by(lists.inverse, Kind::Block)
-}
-
-// A tag and a half-width.
-fn measure_width(bytes: &[u8]) -> Measured
-    ensures { Measures bytes.now result }
+fn width_record(bytes: &[u8]) -> Result<u32, Flaw>
+    ensures { IfOk result (λ w. 5 ≤ length bytes.now) }
 {
     if bytes.len() < WIDTH_RECORD {
-        return cut_short();
+        return Err(Flaw::Short);
     }
-    Measured {
-        kind: Kind::Width,
-        length: WIDTH_RECORD,
+    Ok(word_at(bytes, 1))
+}
+
+// A book or a half-width holds for the blocks behind it.
+#[derive(Clone, Copy)]
+pub enum Record {
+    Book(BookRecord),
+    Block(BlockRecord),
+    Width(u32),
+}
+
+impl Record {
+    // How many bytes it takes.
+    pub fn length(self) -> usize
+        ensures { result ≡ length_of self }
+    {
+        match self {
+            Record::Book(book) => book.ready.end,
+            Record::Block(block) => block.inverse.end,
+            Record::Width(_) => WIDTH_RECORD,
+        }
     }
 }
 
-// The record that `bytes` begins with. A book's is at least BOOK_HEAD bytes long and a block's HEAD.
-pub fn measure(bytes: &[u8]) -> Measured
-    ensures { Measures bytes.now result }
+// The record that `bytes` begins with.
+pub fn record_of(bytes: &[u8]) -> Result<Record, Flaw>
+    ensures { IfOk result (λ r. RecordInside r (length bytes.now)) }
 {
-    if bytes.len() == 0 {
-        return cut_short();
-    }
-    match bytes[0] {
-        b'K' => measure_book(bytes),
-        b'C' => measure_block(bytes),
-        b'W' => measure_width(bytes),
-        _ => unreadable(),
+    match bytes.first() {
+        None => Err(Flaw::Short),
+        Some(b'K') => Ok(Record::Book(book_record(bytes)?)),
+        Some(b'C') => Ok(Record::Block(block_record(bytes)?)),
+        Some(b'W') => Ok(Record::Width(width_record(bytes)?)),
+        Some(_) => Err(Flaw::Unreadable),
     }
 }

@@ -2,9 +2,9 @@
 #![tactic(auto)]
 
 ghost use Rattle.std.specs.Prelude.{◌≡◌, ◌+◌, ◌-◌, ◌≤◌, length};
-ghost use Rattle.block_input.specs.Held.{HeldIn, Whole};
+ghost use Rattle.block_input.specs.Held.{HeldIn};
 
-use block_file::record::{self, Kind};
+use block_file::record::{self, Flaw, Record};
 
 // The standard input.
 const STDIN_FILENO: i32 = 0;
@@ -16,19 +16,13 @@ pub fn input_room() -> [u8; INPUT] {
     [0; INPUT]
 }
 
-// What is held of the input: the bytes from `start` to `end`. The first `length` of them are a record of this kind, and `passed` bytes
-// of the input came before it.
+// What is held of the input: the bytes from `start` to `end`. They begin with this record, or with none; `passed` bytes of the input came before them.
 #[derive(Clone, Copy)]
 pub struct Held {
-    pub kind: Kind,
+    pub found: Result<Record, Flaw>,
     pub start: usize,
     pub end: usize,
-    pub length: usize,
     pub passed: u64,
-}
-
-pub fn is_record(held: Held) -> bool {
-    matches!(held.kind, Kind::Book | Kind::Block | Kind::Width)
 }
 
 // Copies `kept` bytes from `start` on to the front.
@@ -47,17 +41,15 @@ fn read_more(input: &mut [u8], end: usize) -> usize
     io::read_full(STDIN_FILENO, behind)
 }
 
-// Measures the record that the bytes from `start` to `end` begin with.
-fn measured(input: &[u8], start: usize, end: usize, passed: u64) -> Held
+// What the bytes from `start` to `end` begin with.
+fn held_from(input: &[u8], start: usize, end: usize, passed: u64) -> Held
     requires { (start ≤ end) × ((end ≤ 1114112) × (1114112 ≤ length input.now)) }
     ensures { HeldIn result }
 {
-    let found = record::measure(&input[start..end]);
     Held {
-        kind: found.kind,
+        found: record::record_of(&input[start..end]),
         start,
         end,
-        length: found.length,
         passed,
     }
 }
@@ -66,16 +58,15 @@ fn measured(input: &[u8], start: usize, end: usize, passed: u64) -> Held
 fn ended(kept: usize, passed: u64) -> Held
     ensures { HeldIn result }
 {
-    let kind = if kept == 0 {
-        Kind::Short
+    let flaw = if kept == 0 {
+        Flaw::Short
     } else {
-        Kind::Unreadable
+        Flaw::Unreadable
     };
     Held {
-        kind,
+        found: Err(flaw),
         start: 0,
         end: 0,
-        length: 0,
         passed,
     }
 }
@@ -98,20 +89,31 @@ fn read_on(input: &mut [u8; INPUT], start: usize, end: usize, passed: u64) -> He
     if more == 0 {
         return ended(kept, passed);
     }
-    measured(input, 0, kept + more, passed)
+    held_from(input, 0, kept + more, passed)
 }
 
-// The record after the one that is held, once it is whole. Kind::Short says that the input ended before it.
+// The length of the record that is held, 0 where none is.
+fn taken(held: Held) -> usize
+    requires { HeldIn held }
+    ensures { held.start + result ≤ held.end }
+{
+    match held.found {
+        Ok(record) => record.length(),
+        Err(_) => 0,
+    }
+}
+
+// The record after the one that is held, once it is whole. Flaw::Short says that the input ended before it.
 pub fn next_record(input: &mut [u8; INPUT], before: Held) -> Held
     requires { HeldIn before }
     ensures { HeldIn result }
 {
-    let passed = before.passed.wrapping_add(before.length as u64);
-    let start = before.start + before.length;
-    let mut held = measured(input, start, before.end, passed);
+    let length = taken(before);
+    let passed = before.passed.wrapping_add(length as u64);
+    let mut held = held_from(input, before.start + length, before.end, passed);
     // Every turn reads a byte or more, so that there are no more turns than the buffer has bytes.
     for _ in 0..INPUT {
-        if held.kind != Kind::Short {
+        if !matches!(held.found, Err(Flaw::Short)) {
             break;
         }
         held = read_on(input, held.start, held.end, passed);
@@ -122,17 +124,10 @@ pub fn next_record(input: &mut [u8; INPUT], before: Held) -> Held
     held
 }
 
-fn part(input: &[u8], start: usize, end: usize) -> &[u8]
-    requires { (start ≤ end) × (end ≤ length input.now) }
-    ensures { length result.now ≡ end - start }
-{
-    &input[start..end]
-}
-
 // The bytes that are held, which begin with the record.
 pub fn held_bytes(input: &[u8; INPUT], held: Held) -> &[u8]
     requires { HeldIn held }
-    ensures { Whole held.kind (length result.now) }
+    ensures { length result.now ≡ held.end - held.start }
 {
-    part(input, held.start, held.end)
+    &input[held.start..held.end]
 }

@@ -1,16 +1,53 @@
-// A record's lists, copied to where the searches take them from, and the lengths of the rooms that it asks for.
+// A record's lists, copied to where the searches take them from.
 #![tactic(auto)]
 
-pub mod room;
+ghost use Rattle.std.specs.Prelude.{length};
+ghost use Rattle.block_file.specs.Within.{BookInside, BlockInside};
+ghost use Rattle.block_lists.specs.Lengths.{BookHeld};
 
-ghost use Rattle.std.specs.Prelude.{◌≤◌, length};
-ghost use Rattle.block_file.specs.Within.{Within};
-ghost use Rattle.block_lists.specs.Lengths.{BookWithin, RoomsWithin};
+use block_file::load;
+use block_file::record::{
+    BlockRecord, BookRecord, CHOICES, CONFIGS, LEVELS, MAP, READY, ROW, SYMBOLS,
+};
 
-use block_file::record::BlockRecord;
-use block_file::{fields, load, record};
+// The arrays that lists are copied to, the searches' rooms, and the levels that a search works on. Of fixed length: the program takes no heap.
+#[derive(Drop)]
+pub struct Lists {
+    pub map: [u8; MAP],
+    pub configs: [u8; CONFIGS],
+    pub symbols: [f32; SYMBOLS],
+    pub ready: [f32; READY],
+    pub levels: [i32; LEVELS],
+    pub scan: [u32; LEVELS],
+    pub source: [f32; LEVELS],
+    pub inv_qm: [f32; LEVELS],
+    pub work: [i32; LEVELS],
+    pub choices: [u8; CHOICES],
+    pub row_a: [f32; ROW],
+    pub row_b: [f32; ROW],
+}
 
-// The lengths of the latest book's lists, and its number of clusters.
+impl Lists {
+    // All zeros.
+    pub fn new() -> Lists {
+        Lists {
+            map: [0; MAP],
+            configs: [0; CONFIGS],
+            symbols: [0.0; SYMBOLS],
+            ready: [0.0; READY],
+            levels: [0; LEVELS],
+            scan: [0; LEVELS],
+            source: [0.0; LEVELS],
+            inv_qm: [0.0; LEVELS],
+            work: [0; LEVELS],
+            choices: [0; CHOICES],
+            row_a: [0.0; ROW],
+            row_b: [0.0; ROW],
+        }
+    }
+}
+
+// The latest book's number of clusters, and the lengths of its lists.
 #[derive(Clone, Copy)]
 pub struct BookLengths {
     pub clusters: u32,
@@ -22,7 +59,7 @@ pub struct BookLengths {
 
 // Before the first book.
 pub fn no_book() -> BookLengths
-    ensures { BookWithin result }
+    ensures { BookHeld result }
 {
     BookLengths {
         clusters: 0,
@@ -33,63 +70,30 @@ pub fn no_book() -> BookLengths
     }
 }
 
-// Copies a book's record to where it stays until the next one.
-pub fn take_book(
-    bytes: &[u8],
-    map: &mut [u8; record::MAP],
-    configs: &mut [u8; record::CONFIGS],
-    symbols: &mut [f32; record::SYMBOLS],
-    ready: &mut [f32; record::READY],
-) -> BookLengths
-    requires { 5 ≤ length bytes.now }
-    ensures { BookWithin result }
+// Copies a book's lists to where they stay until the next one.
+pub fn copy_book(bytes: &[u8], book: BookRecord, lists: &mut Lists) -> BookLengths
+    requires { BookInside book (length bytes.now) }
+    ensures { BookHeld result }
 {
-    let lists = record::book_record(bytes);
-    load::take_bytes(bytes, lists.map, map);
-    load::take_bytes(bytes, lists.configs, configs);
-    load::take_floats(bytes, lists.symbols, symbols);
-    load::take_floats(bytes, lists.ready, ready);
+    load::take_bytes(bytes, book.map, &mut lists.map);
+    load::take_bytes(bytes, book.configs, &mut lists.configs);
+    load::take_list(bytes, book.symbols, &mut lists.symbols);
+    load::take_list(bytes, book.ready, &mut lists.ready);
     BookLengths {
-        clusters: fields::word_at(bytes, 1),
-        map: lists.map.count,
-        configs: lists.configs.count,
-        symbols: lists.symbols.count,
-        ready: lists.ready.count,
+        clusters: book.clusters,
+        map: book.map.count,
+        configs: book.configs.count,
+        symbols: book.symbols.count,
+        ready: book.ready.count,
     }
 }
 
-// Copies the lists of a block's record.
-pub fn load_block(
-    bytes: &[u8],
-    lists: BlockRecord,
-    levels: &mut [i32; record::LEVELS],
-    scan: &mut [u32; record::LEVELS],
-    source: &mut [f32; record::LEVELS],
-    inv_qm: &mut [f32; record::LEVELS],
-)
-    requires { Within lists (length bytes.now) }
+// Copies a block's lists.
+pub fn copy_block(bytes: &[u8], block: BlockRecord, lists: &mut Lists)
+    requires { BlockInside block (length bytes.now) }
 {
-    load::take_levels(bytes, lists.levels, levels);
-    load::take_words(bytes, lists.scan, scan);
-    load::take_floats(bytes, lists.source, source);
-    load::take_floats(bytes, lists.inverse, inv_qm);
-}
-
-// The lengths of the rooms that a block's record asks for.
-#[derive(Clone, Copy)]
-pub struct RoomLengths {
-    pub choices: usize,
-    pub row_a: usize,
-    pub row_b: usize,
-}
-
-pub fn rooms_at(bytes: &[u8]) -> RoomLengths
-    requires { 53 ≤ length bytes.now }
-    ensures { RoomsWithin result }
-{
-    RoomLengths {
-        choices: fields::room_at(bytes, 41, record::CHOICES),
-        row_a: fields::room_at(bytes, 45, record::ROW),
-        row_b: fields::room_at(bytes, 49, record::ROW),
-    }
+    load::take_list(bytes, block.levels, &mut lists.levels);
+    load::take_list(bytes, block.scan, &mut lists.scan);
+    load::take_list(bytes, block.source, &mut lists.source);
+    load::take_list(bytes, block.inverse, &mut lists.inv_qm);
 }

@@ -16,7 +16,7 @@ use Rattle.laws.proofs.Refused.{passes-first}
 use Rattle.laws.specs.Refusals.{first_refused}
 use Rattle.least_cost.specs.Position.{nz}
 use Rattle.packing.specs.Signed.{pack_signed}
-use Rattle.block_tokens.specs.declared.Reply.TheVariants.{Tokens, Refused}
+use Rattle.block_tokens.specs.Reply.{Tokens, Refused}
 use Rattle.block_tokens.specs.Tokens.{Token, covered_by, level_context, prev_by, nonzeros_of, level_tokens, block_tokens, coded_levels}
 use Rattle.block_tokens.specs.Code.{Code}
 use Rattle.block_tokens.specs.Writing.{over, Outputs, written, all_within, all_coded, room_for, write_checks, WriteResult, wrote, write_result}

@@ -1,6 +1,6 @@
 -- No reading, and no outcome, is a refusal by 0. Assumes nothing.
 use Prim.Native.Nat.{ℕ, suc, ◌-◌, ◌*◌}
-use mathlib.Core.Path.{◌≡◌, refl, sym, ap, ◌∙◌}
+use mathlib.Core.Path.{◌≡◌, refl}
 use mathlib.Core.Bool.{Bool, true, false, cond}
 use mathlib.Core.List.{List, [], ◌∷◌, zip_with}
 use native.Mathlib.Omega.{arith}
@@ -12,13 +12,12 @@ use Rattle.block.specs.declared.Shape.{Shape}
 use Rattle.laws.specs.Refusals.{first_refused}
 use Rattle.least_cost.specs.Position.{nz}
 use Rattle.packing.specs.Signed.{unpack_signed}
-use Rattle.block_tokens.specs.declared.Reply.{Reply}
-use Rattle.block_tokens.specs.declared.Reply.TheVariants as Reply
+use Rattle.block_tokens.specs.Reply.{Reply}
 use Rattle.block_tokens.specs.Tokens.{covered_by, count_context, prev_by, level_context, block_tokens, coded_levels}
 use Rattle.block_tokens.specs.Code.{Code, code_in}
 use Rattle.block_tokens.specs.Writing.{Outputs, written, write_checks, WriteResult, wrote, write_result}
 use Rattle.block_tokens.specs.Reading.{Pair, pair, splits_in, value_in, Reading, Levels, Refused, before, read_levels, read_block, read_tokens}
-use Rattle.block_tokens.specs.Outcome.{Given, lent_refusal, write_outcome, ReadResult, read_as, read_result, read_outcome}
+use Rattle.block_tokens.specs.Outcome.{Given, lent_refusal, write_outcome, read_as, read_result, read_outcome}
 
 -- a refusal has a number above 0
 pub record Numbered (r : Reading) : Type 0 where

@@ -1,5 +1,5 @@
 -- What the checks of what is lent leave to go by. Assumes nothing.
-use Prim.Native.Nat.{ℕ, ◌+◌, ◌*◌, ◌≤◌, ◌<◌}
+use Prim.Native.Nat.{ℕ, ◌*◌, ◌≤◌, ◌<◌}
 use mathlib.Core.Path.{◌≡◌, refl, sym, ◌∙◌}
 use mathlib.Core.Bool.{Bool, true, false, ◌&&◌}
 use mathlib.Core.List.{List, [], ◌∷◌, ◌++◌}
@@ -10,7 +10,6 @@ use lib.IntN.{ℤ}
 use lib.ListN.{length, get_or, get_or-eq_default}
 use Rattle.ac_context.proofs.Domain.{sides-most}
 use Rattle.ac_context.specs.Contexts.{is_power_below}
-use Rattle.block.specs.Checks.{strategy_covered}
 use Rattle.block.specs.declared.Shape.{Shape}
 use Rattle.coding.proofs.Passed.{codes}
 use Rattle.coding.specs.Coding.{Coding, Codes, coding_checks}
@@ -24,7 +23,7 @@ use Rattle.scan.specs.Scan.{each_once}
 use Rattle.block_tokens.specs.Tokens.{covered_by}
 use Rattle.block_tokens.specs.Code.{code_in, cluster_of, split_exponent, msb_in_token, lsb_in_token}
 use Rattle.block_tokens.specs.Outcome.{Given, shape_checks, lent_checks, lent_refusal}
-use Rattle.block_tokens.specs.Passed.{Shaped, Scanned, Passed}
+use Rattle.block_tokens.specs.Passed.{Shaped, Passed}
 use Rattle.block_tokens.proofs.Pairs.{Within}
 
 -- ---- the configurations

@@ -1,18 +1,17 @@
 -- The promises of both calls, of any answer that is the outcome's. Assumes nothing.
-use Prim.Native.Nat.{ℕ, ◌+◌, ◌*◌, ◌≤◌}
+use Prim.Native.Nat.{ℕ, ◌+◌, ◌*◌}
 use mathlib.Core.Path.{◌≡◌, refl, sym, ap, ◌∙◌}
-use mathlib.Core.Bool.{Bool, true, false, cond, ◌&&◌, false≢true}
-use mathlib.Core.List.{List, [], ◌∷◌}
+use mathlib.Core.Bool.{Bool, true, false, cond, false≢true}
+use mathlib.Core.List.{List}
 use native.Mathlib.Omega.{arith}
-use lib.Dec.{eqb, leb}
+use lib.Dec.{eqb}
 use lib.IntN.{ℤ}
 use lib.ListN.{length}
 use Rattle.laws.proofs.Refused.{not-refused}
 use Rattle.laws.specs.Refusals.{first_refused}
 use Rattle.coding.specs.Coding.{coding_checks}
 use Rattle.packing.proofs.Hybrid.{split-of, is-split}
-use Rattle.block_tokens.specs.declared.Reply.{Reply}
-use Rattle.block_tokens.specs.declared.Reply.TheVariants.{Tokens, Refused}
+use Rattle.block_tokens.specs.Reply.{Reply, Tokens, Refused}
 use Rattle.block_tokens.specs.Tokens.{Token, covered_by, block_tokens, coded_levels}
 use Rattle.block_tokens.specs.Code.{Code, code_in}
 use Rattle.block_tokens.specs.Writing.{Outputs, written, all_within, all_coded, room_for, write_checks, WriteResult, wrote, write_result}

@@ -6,7 +6,7 @@ use borrow.Author.Tests.{eq-eqb}
 use lib.IntN.{ℤ}
 use lib.ListN.{length, take, length-map}
 use Rattle.scan.specs.Scan.{put}
-use Rattle.block_tokens.specs.declared.Reply.TheVariants.{Tokens}
+use Rattle.block_tokens.specs.Reply.{Tokens}
 use Rattle.block_tokens.specs.Tokens.{Token, covered_by, block_tokens, coded_levels}
 use Rattle.block_tokens.specs.Code.{Code, code_in, symbol_in, bits_in}
 use Rattle.block_tokens.specs.Writing.{Outputs, written, wrote}

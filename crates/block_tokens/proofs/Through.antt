@@ -7,7 +7,7 @@ use native.Mathlib.Nat.{add-zero}
 use lib.IntN.{ℤ, pos}
 use lib.ListN.{length, get_or}
 use Rattle.block.specs.declared.Shape.{Shape}
-use Rattle.scan.specs.Scan.{Perm, level_at, put}
+use Rattle.scan.specs.Scan.{level_at, put}
 use Rattle.scan.proofs.Through.{put-at, put-before}
 use Rattle.block_tokens.specs.Tokens.{covered_by, levels_from, coded_levels}
 use Rattle.block_tokens.specs.Passed.{Scanned}

@@ -11,12 +11,11 @@ use Rattle.block.specs.declared.Shape.{Shape}
 use Rattle.laws.specs.Refusals.{first_refused}
 use Rattle.scan.specs.Scan.{put}
 use Rattle.scan.proofs.Through.{put-length}
-use Rattle.block_tokens.specs.declared.Reply.TheVariants.{Tokens}
+use Rattle.block_tokens.specs.Reply.{Tokens}
 use Rattle.block_tokens.specs.Tokens.{Token, covered_by, block_tokens}
 use Rattle.block_tokens.specs.Code.{Code, code_in, symbol_in, bits_in}
 use Rattle.block_tokens.specs.Writing.{Outputs, written, room_for, write_checks, wrote, write_result}
 use Rattle.block_tokens.specs.Reading.{Reading, read_tokens}
-use Rattle.block_tokens.specs.Reading as Reading
 use Rattle.block_tokens.specs.Outcome.{Given, lent_refusal, write_outcome, read_result, read_outcome}
 use Rattle.block_tokens.specs.Passed.{Passed}
 use Rattle.block_tokens.specs.Promise.{WrittenBack}

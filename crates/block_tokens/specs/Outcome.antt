@@ -6,13 +6,11 @@ use Rattle.block.specs.declared.Shape.{Shape}
 use Rattle.coding.specs.Coding.{Coding, coding_of, coding_checks}
 use Rattle.laws.specs.Refusals.{first_refused}
 use Rattle.scan.specs.Scan.{each_once, put}
-use Rattle.block_tokens.specs.declared.Reply.{Reply}
-use Rattle.block_tokens.specs.declared.Reply.TheVariants.{Tokens, Refused}
+use Rattle.block_tokens.specs.Reply.{Reply, Tokens, Refused}
 use Rattle.block_tokens.specs.Tokens.{covered_by, coded_levels}
 use Rattle.block_tokens.specs.Code.{code_in}
 use Rattle.block_tokens.specs.Writing.{Outputs, WriteResult, wrote, write_result}
 use Rattle.block_tokens.specs.Reading.{Reading, read_tokens}
-use Rattle.block_tokens.specs.Reading as Reading
 
 -- what both are given besides levels and tokens; any part may be anything
 pub record Given : Type 0 where

@@ -2,8 +2,7 @@
 use Rattle.std.specs.Prelude.{ℕ, ◌+◌, ◌*◌, ◌≤◌, ◌<◌, ◌≡◌, true, List, ℤ, length, take}
 use Rattle.packing.specs.Hybrid.{symbol_of, extra_value_of}
 use Rattle.scan.specs.Scan.{level_at}
-use Rattle.block_tokens.specs.declared.Reply.{Reply}
-use Rattle.block_tokens.specs.declared.Reply.TheVariants.{Tokens, Refused}
+use Rattle.block_tokens.specs.Reply.{Reply, Tokens, Refused}
 use Rattle.block_tokens.specs.Tokens.{covered_by, coded_levels}
 use Rattle.block_tokens.specs.Code.{Code, code_in, split_exponent, msb_in_token, lsb_in_token}
 use Rattle.block_tokens.specs.Writing.{Outputs, wrote, room_for}

@@ -2,8 +2,7 @@
 use Rattle.std.specs.Prelude.{ℕ, Bool, true, cond, ◌&&◌, List, [], ◌∷◌, ◌++◌, map, eqb, leb, ltb, ℤ, nat_abs, length, drop}
 use Rattle.block.specs.declared.Shape.{Shape}
 use Rattle.laws.specs.Refusals.{first_refused}
-use Rattle.block_tokens.specs.declared.Reply.{Reply}
-use Rattle.block_tokens.specs.declared.Reply.TheVariants.{Tokens, Refused}
+use Rattle.block_tokens.specs.Reply.{Reply, Tokens, Refused}
 use Rattle.block_tokens.specs.Tokens.{Token, block_tokens}
 use Rattle.block_tokens.specs.Code.{Code, symbol_in, extra_in, bits_in}
 

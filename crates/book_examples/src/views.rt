@@ -3,6 +3,7 @@
 ghost use Rattle.std.specs.Prelude.{◌≡◌, length};
 
 use crate::STDOUT_FILENO;
+use book_calls::view::PriceView;
 use book_calls::{book, view};
 use prices::Pair;
 use refusals::Refusal;
@@ -62,87 +63,42 @@ fn say_two(viewed: Result<Pair, Refusal>, plain: Result<Pair, Refusal>) {
     }
 }
 
-// A view has one lifetime for its slices.
-fn compare<'a>(
-    text: &[u8],
-    map: &'a [u8],
-    configs: &'a [u8],
-    symbols: &'a [f32],
-    ready: &'a [f32],
-    context: u32,
-    value: u32,
-) {
+// The parts of a book by a view and by themselves.
+fn compare(text: &[u8], parts: &PriceView, context: u32, value: u32) {
+    let PriceView {
+        clusters,
+        map,
+        configs,
+        symbols,
+        ready,
+    } = *parts;
     io::write_all(STDOUT_FILENO, text);
     say_one(
-        view::token_bits_by_view(2, map, configs, symbols, ready, context, value),
-        book::token_bits(2, map, configs, symbols, ready, context, value),
+        view::token_bits_by_view(clusters, map, configs, symbols, ready, context, value),
+        book::token_bits(clusters, map, configs, symbols, ready, context, value),
     );
     io::write_all(STDOUT_FILENO, b"; with the next context:");
     say_two(
-        view::token_bits_pair_by_view(2, map, configs, symbols, ready, context, value),
-        book::token_bits_pair(2, map, configs, symbols, ready, context, value),
+        view::token_bits_pair_by_view(clusters, map, configs, symbols, ready, context, value),
+        book::token_bits_pair(clusters, map, configs, symbols, ready, context, value),
     );
     io::write_all(STDOUT_FILENO, b"\n");
 }
 
-fn comparisons<'a>(map: &'a [u8], configs: &'a [u8], symbols: &'a [f32], ready: &'a [f32]) {
-    compare(b"16 in context 0:", map, configs, symbols, ready, 0, 16);
-    compare(b"255 in context 0:", map, configs, symbols, ready, 0, 255);
-    compare(
-        b"65,536 in context 0:",
-        map,
-        configs,
-        symbols,
-        ready,
-        0,
-        65536,
-    );
-    compare(b"255 in context 1:", map, configs, symbols, ready, 1, 255);
-    compare(
-        b"131,072 in context 0:",
-        map,
-        configs,
-        symbols,
-        ready,
-        0,
-        131072,
-    );
-    compare(
-        b"3 in context 0, not kept:",
-        map,
-        configs,
-        symbols,
-        ready,
-        0,
-        3,
-    );
-    compare(
-        b"0 in the last context:",
-        map,
-        configs,
-        symbols,
-        ready,
-        14849,
-        0,
-    );
-    compare(
-        b"0 past the last context:",
-        map,
-        configs,
-        symbols,
-        ready,
-        14850,
-        0,
-    );
-    compare(
-        b"16 with a map for configurations:",
-        map,
-        map,
-        symbols,
-        ready,
-        0,
-        16,
-    );
+fn comparisons(parts: &PriceView) {
+    compare(b"16 in context 0:", parts, 0, 16);
+    compare(b"255 in context 0:", parts, 0, 255);
+    compare(b"65,536 in context 0:", parts, 0, 65536);
+    compare(b"255 in context 1:", parts, 1, 255);
+    compare(b"131,072 in context 0:", parts, 0, 131072);
+    compare(b"3 in context 0, not kept:", parts, 0, 3);
+    compare(b"0 in the last context:", parts, 14849, 0);
+    compare(b"0 past the last context:", parts, 14850, 0);
+    let exchanged = PriceView {
+        configs: parts.map,
+        ..*parts
+    };
+    compare(b"16 with a map for configurations:", &exchanged, 0, 16);
 }
 
 // Two clusters of configurations 4,2,0 and 6,2,0. Symbol prices are 1, but 2 in cluster 1 for the symbols of 16 and of 255, which are 16 and 71. One ready price
@@ -156,5 +112,5 @@ pub fn price_through_a_view() {
     let mut ready: [f32; 512] = [0.0; 512];
     let _ = book::fill_ready(2, &map, &configs, &symbols, &mut ready);
     ready[3] = 0.0;
-    comparisons(&map, &configs, &symbols, &ready);
+    comparisons(&view::new(2, &map, &configs, &symbols, &ready));
 }

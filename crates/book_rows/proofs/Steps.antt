@@ -45,11 +45,6 @@ same_bits_lem : (x y : Float) → to_bits binary32 x ≡ to_bits binary32 y → 
 unfolding same_bits
 same_bits_lem x y e = eq-eqb _ _ e
 
--- every price of a cluster is a cost
-pub row-cost : {configs : List ℕ} {symbols ready : List Float} {k : ℕ} → Row configs symbols ready k → (v : ℕ) → v ≤ 131071 → T (cost (cluster_price configs symbols k v))
-row-cost {configs} {symbols} {ready} {k} r v h =
-    cluster-cost configs symbols k v h (symbol-priced symbols k (cluster_symbol configs k v) r.prices)
-
 pub sound-row : (b : Book) → Sound b → (k : ℕ) → k < b.clusters → Row b.configs b.symbols b.ready k
 sound-row b p k h =
     record {

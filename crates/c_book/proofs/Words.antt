@@ -1,15 +1,15 @@
 -- A price that is told of a value without a word is +infinity. Assumes nothing.
 use mathlib.Core.Path.{◌≡◌, refl, sym, ap, ◌∙◌}
 use mathlib.Core.Bool.{Bool, true, false, ◌&&◌}
-use Prim.Native.Nat.{ℕ, ◌+◌, ◌<◌}
+use Prim.Native.Nat.{ℕ, ◌+◌}
 use native.Mathlib.Omega.{arith}
 use lib.Ieee.{Float, inf}
 use Rattle.std.proofs.Common.{Result}
 use Rattle.prices.specs.declared.Pair.{Pair}
 use Rattle.refusals.specs.declared.Refusal.{Refusal}
 use Rattle.refusals.specs.Numbers.{answered, code_of}
-use Rattle.book_calls.specs.Prices.{Priced, PairPriced, symbol_in}
-use Rattle.price_leaves.specs.Leaf.{in_domain, price_reply, pair_reply, both}
+use Rattle.book_calls.specs.Prices.{Priced, PairPriced}
+use Rattle.price_leaves.specs.Leaf.{in_domain, both}
 use Rattle.prices.specs.Book.{Book, price}
 use Rattle.c_answers.specs.Told.{after, first_after, second_after}
 use Rattle.c_book.specs.Prices.{PriceTold, PairTold}

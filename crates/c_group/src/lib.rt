@@ -9,7 +9,7 @@ ghost use Rattle.prices.specs.Book.{book_of};
 ghost use Rattle.c_group.specs.Group.{Promised, code_of, reply_of};
 
 use group_run::Answer;
-use price_view::PriceView;
+use rooms::Room;
 use searches::Search;
 
 // Writes how many blocks are settled, and returns 0 or the refusal.
@@ -54,6 +54,7 @@ pub extern "C" fn rdoq_group(
         (record { choices = choices.old; row_a = row_a.old; row_b = row_b.old })
         (reply_of result settled.new (lent_of levels.new choices.new row_a.new row_b.new)) }
 {
+    // The C interface: a refusal is a number here, so that `?` does not serve.
     let search = match Search::try_from(search) {
         Ok(search) => search,
         Err(refusal) => {
@@ -61,15 +62,14 @@ pub extern "C" fn rdoq_group(
             return refusal.number();
         }
     };
-    let view = PriceView {
-        clusters,
-        map,
-        configs,
-        symbols,
-        ready,
+    let view = price_view::new(clusters, map, configs, symbols, ready);
+    let mut room = Room {
+        choices,
+        row_a,
+        row_b,
     };
     let answer = group_calls::rdoq_group(
-        search, &view, blocks, settings, scans, sources, inv_qms, levels, choices, row_a, row_b,
+        search, &view, blocks, settings, scans, sources, inv_qms, levels, &mut room,
     );
     tell_group(answer, settled)
 }

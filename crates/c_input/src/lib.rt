@@ -9,7 +9,6 @@ ghost use Rattle.c_input.specs.Input.{reply_of, Promised};
 use bias::DequantBias;
 use block::{BlockData, Shape};
 use c_answers::tell_answer;
-use price_view::PriceView;
 use weights::Settings;
 
 // Writes what the levels cost as they stand, and how many of them are nonzero.
@@ -46,13 +45,8 @@ pub extern "C" fn rdoq_input_cost(
         scan.now source.now inv_qm.now levels.now)
         cost.old count.old (reply_of result cost.new count.new) }
 {
-    let view = PriceView {
-        clusters,
-        map,
-        configs,
-        symbols,
-        ready,
-    };
+    let view = price_view::new(clusters, map, configs, symbols, ready);
+    // C hands each number over by itself: a function that put them together would take as many.
     let block = BlockData {
         shape: Shape {
             cx,

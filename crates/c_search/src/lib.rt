@@ -13,7 +13,7 @@ ghost use Rattle.c_search.specs.Search.{Promised};
 use bias::DequantBias;
 use block::{BlockData, Shape};
 use c_answers::tell_answer;
-use price_view::PriceView;
+use rooms::Room;
 use searches::Search;
 use weights::Settings;
 
@@ -57,17 +57,13 @@ pub extern "C" fn rdoq_block(
         (lent_of levels.old choices.old row_a.old row_b.old) cost.old count.old
         (reply_of result cost.new count.new (lent_of levels.new choices.new row_a.new row_b.new)) }
 {
+    // The C interface: a refusal is a number here, so that `?` does not serve.
     let search = match Search::try_from(search) {
         Ok(search) => search,
         Err(refusal) => return refusal.number(),
     };
-    let view = PriceView {
-        clusters,
-        map,
-        configs,
-        symbols,
-        ready,
-    };
+    let view = price_view::new(clusters, map, configs, symbols, ready);
+    // C hands each number over by itself: a function that put them together would take as many.
     let block = BlockData {
         shape: Shape {
             cx,
@@ -89,8 +85,11 @@ pub extern "C" fn rdoq_block(
         source,
         inv_qm,
     };
-    let answer = searches::rdoq_block(
-        search, &view, &block, half_width, levels, choices, row_a, row_b,
-    );
+    let mut room = Room {
+        choices,
+        row_a,
+        row_b,
+    };
+    let answer = searches::rdoq_block(search, &view, &block, half_width, levels, &mut room);
     tell_answer(answer, cost, count)
 }

@@ -16,7 +16,8 @@ use Rattle.small.specs.Small as Small
 use Rattle.small.specs.Small.{check32}
 use Rattle.c_answers.specs.Told.{answer_code, cost_after, count_after}
 use Rattle.c_named.specs.Named.{reply_of, named_reply}
-use Rattle.c_named.proofs.Telling.{named, not-named, told-block, told-keeps, told-demanded}
+use Rattle.searches.proofs.Numbers.{named, not-named}
+use Rattle.c_named.proofs.Telling.{told-block, told-keeps, told-demanded}
 use Rattle.c_small.specs.Small.{small_reply, Promised}
 
 module _ (search : ℕ) (book : Book) (b : Block) (l : Lent) (cost : Float) (count : ℕ) where
@@ -30,16 +31,17 @@ module _ (search : ℕ) (book : Book) (b : Block) (l : Lent) (cost : Float) (cou
       let none = not-named search told in
       record { reply = rw (e, none.0, none.1.0) refl; demanded = λ few named. absurd (none.1.1 named); keeps = λ refused. refl }
 
-  pub searched : check32 b ≡ true → {found : Search} → IsNamed search (Ok found) → {answer : Answer} {left : Lent} {code after : ℕ} {spent : Float}
+  pub searched : check32 b ≡ true → {found : Search} → IsNamed search (Ok found) → {answer : Answer} {left back : Lent} {code after : ℕ} {spent : Float}
       → Small.Promised found book b l (record { answer = answer; lent = left })
       → (code ≡ answer_code answer) × ((spent ≡ cost_after answer cost) × (after ≡ count_after answer count)) → l.levels ≡ b.levels
-      → Promised search book b l cost count (reply_of code spent after left)
+      → back ≡ left → Promised search book b l cost count (reply_of code spent after back)
   unfolding small_reply named_reply
-  searched e {found} told {answer} {left} P t own =
+  searched e {found} told {answer} {left} P t own given =
       let which = named search told in
       let Q = rw which.1 at P in
-      record {
+      rw given
+      (record {
         reply = rw (e, which.0) (told-block cost count Q.outcome t);
         demanded = λ small few. told-demanded _ _ _ _ _ _ Q.outcome (Q.demanded e);
         keeps = told-keeps answer l.levels left.levels t.0 (λ number k. P.keeps number k ∙ sym own);
-      }
+      })

@@ -11,8 +11,8 @@ ghost use Rattle.c_small.specs.Small.{Promised};
 use bias::DequantBias;
 use block::{BlockData, Shape};
 use c_answers::tell_answer;
-use price_view::PriceView;
 use refusals::Refusal;
+use rooms::Room;
 use searches::Search;
 use weights::Settings;
 
@@ -59,17 +59,13 @@ pub extern "C" fn rdoq_small_block(
     if !small::is_small(cx, cy) {
         return Refusal::NotSmall.number();
     }
+    // The C interface: a refusal is a number here, so that `?` does not serve.
     let search = match Search::try_from(search) {
         Ok(search) => search,
         Err(refusal) => return refusal.number(),
     };
-    let view = PriceView {
-        clusters,
-        map,
-        configs,
-        symbols,
-        ready,
-    };
+    let view = price_view::new(clusters, map, configs, symbols, ready);
+    // C hands each number over by itself: a function that put them together would take as many.
     let block = BlockData {
         shape: Shape {
             cx,
@@ -91,6 +87,11 @@ pub extern "C" fn rdoq_small_block(
         source,
         inv_qm,
     };
-    let answer = small::rdoq_small_block(search, &view, &block, levels, choices, row_a, row_b);
+    let mut room = Room {
+        choices,
+        row_a,
+        row_b,
+    };
+    let answer = small::rdoq_small_block(search, &view, &block, levels, &mut room);
     tell_answer(answer, cost, count)
 }

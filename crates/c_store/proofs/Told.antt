@@ -7,9 +7,13 @@ use native.Mathlib.Omega.{arith}
 use borrow.Author.Tests.{ne_eqb}
 use lib.Dec.{eqb}
 use lib.ListN.{length, take}
-use Rattle.store_map.specs.Map.{Reply, reply}
+use Rattle.store_map.specs.Map.{reply}
 use Rattle.store_map.specs.Store.{Store, run_in, read_refusal}
-use Rattle.store_calls.specs.Calls.{Length, Read, length_reply, told}
+use Rattle.refusals.specs.Numbers.{code_of}
+use Rattle.refusals.specs.declared.Refusal.{Refusal}
+use Rattle.std.proofs.Common.{Result, Ok, Err}
+use Rattle.c_answers.specs.Told.{after}
+use Rattle.store_calls.specs.Calls.{Length, Read, length_of, length_reply, told}
 use Rattle.c_store.specs.Told.{ReadTold, length_code, length_after}
 
 code-reply : (n size : ℕ) → length_code (length_reply n size) ≡ n
@@ -26,6 +30,16 @@ told-reply : (n size before : ℕ) (l : List ℕ) → told (length_reply n size)
 unfolding told length_reply
 told-reply zero size before l = refl
 told-reply (suc n) size before l = rw (ne_eqb (suc n) 0 (λ z. omega arith))
+
+pub code-told : (r : Result ℕ Refusal) → code_of r ≡ length_code (length_of r)
+unfolding length_code
+code-told (Ok n) = refl
+code-told (Err refusal) = refl
+
+pub length-told : (r : Result ℕ Refusal) (before : ℕ) → after r before ≡ length_after (length_of r) before
+unfolding length_after after
+length-told (Ok n) before = refl
+length-told (Err refusal) before = refl
 
 pub read_told : (s : Store) (k : ℕ) (buffer : List ℕ) (before : ℕ) {answer : Length} {after : List ℕ} {code size : ℕ} → Read s k buffer answer after
     → code ≡ length_code answer → size ≡ length_after answer before → ReadTold s k buffer before code after size

@@ -3,25 +3,8 @@
 
 ghost use Rattle.std.specs.Prelude.{◌≡◌};
 ghost use Rattle.store_map.specs.Store.{store_of};
-ghost use Rattle.store_calls.specs.Calls.{Put, Dropped, length_of};
-ghost use Rattle.c_store.specs.Told.{ReadTold, length_code, length_after};
-
-use refusals::Refusal;
-
-// The code of a reader's answer. Writes the length.
-#[tactic(auto, unfolding(crate::specs::Told::length_code, crate::specs::Told::length_after))]
-fn tell_length(answer: Result<usize, Refusal>, out: &mut usize) -> u32
-    ensures value { result ≡ length_code (length_of answer) }
-    ensures out_after { out.new ≡ length_after (length_of answer) out.old }
-{
-    match answer {
-        Ok(length) => {
-            *out = length;
-            0
-        }
-        Err(refusal) => refusal.number(),
-    }
-}
+ghost use Rattle.store_calls.specs.Calls.{Put, Dropped};
+ghost use Rattle.c_store.specs.Told.{ReadTold};
 
 // Holds the tokens under a block number, in place of a run already there.
 #[unsafe(no_mangle)]
@@ -56,5 +39,5 @@ pub extern "C" fn rdoq_store_read(
     ensures { ReadTold (store_of room.now rec.now) block tokens.old length.old result tokens.new length.new }
 {
     let answer = store_calls::store::read(room, rec, block, tokens);
-    tell_length(answer, length)
+    c_answers::tell(answer, length)
 }

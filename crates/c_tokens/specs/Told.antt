@@ -1,7 +1,6 @@
 -- What a call on tokens tells a caller from C: a code, and the number of tokens behind a pointer where the code is 0.
 use Rattle.std.specs.Prelude.{ℕ, ◌≡◌}
-use Rattle.block_tokens.specs.declared.Reply.{Reply}
-use Rattle.block_tokens.specs.declared.Reply.TheVariants.{Tokens, Refused}
+use Rattle.block_tokens.specs.Reply.{Reply, Tokens, Refused}
 
 unfoldable pub reply_code : Reply → ℕ
 reply_code (Tokens n) = 0

@@ -5,26 +5,10 @@ ghost use Rattle.std.specs.Prelude.{◌≡◌};
 ghost use Rattle.block_tokens.specs.Outcome.{given_of};
 ghost use Rattle.block_tokens.specs.Promise.{Write, Read};
 ghost use Rattle.block_tokens.specs.Writing.{outputs};
-ghost use Rattle.block_tokens.specs.declared.Reply.{Reply};
 ghost use Rattle.c_answers.specs.Parts.{shape_of};
-ghost use Rattle.c_tokens.specs.Told.{Told, reply_code, count_after};
+ghost use Rattle.c_tokens.specs.Told.{Told};
 
 use block::Shape;
-use coded_calls::coded::Reply;
-
-// The code of a reply. Writes the number of tokens.
-fn tell_tokens(reply: Reply, count: &mut u32) -> u32
-    ensures value { result ≡ reply_code reply }
-    ensures count_after { count.new ≡ count_after reply count.old }
-{
-    match reply {
-        Reply::Tokens(tokens) => {
-            *count = tokens;
-            0
-        }
-        Reply::Refused(number) => number,
-    }
-}
 
 // Writes the tokens of a block, and their number.
 #[unsafe(no_mangle)]
@@ -51,7 +35,7 @@ pub extern "C" fn rdoq_write_tokens(
         (outputs contexts.new symbols.new extra_bits.new bits.new))
         count.old result count.new }
 {
-    let reply = coded_calls::coded::write_tokens(
+    let written = coded_calls::coded::write_tokens(
         clusters,
         map,
         configs,
@@ -70,7 +54,7 @@ pub extern "C" fn rdoq_write_tokens(
         extra_bits,
         bits,
     );
-    tell_tokens(reply, count)
+    c_answers::tell(written, count)
 }
 
 // Restores the levels of a block from its tokens, and writes the number of these.
@@ -95,7 +79,7 @@ pub extern "C" fn rdoq_read_tokens(
         symbols.now bits.now levels.old reply levels.new)
         count.old result count.new }
 {
-    let reply = coded_calls::coded::read_tokens(
+    let read = coded_calls::coded::read_tokens(
         clusters,
         map,
         configs,
@@ -112,5 +96,5 @@ pub extern "C" fn rdoq_read_tokens(
         bits,
         levels,
     );
-    tell_tokens(reply, count)
+    c_answers::tell(read, count)
 }

@@ -6,7 +6,7 @@ ghost use Rattle.candidates.specs.Nearest.{nearest_of, is_ideal};
 ghost use Rattle.candidates.specs.Candidates.{candidates_of, filled, filler, in_array, is_current, kept_of, restored_of, settled};
 ghost use Rattle.candidates.specs.Steps.{offer, with_zero};
 
-// At most five levels in trial order. Past the count stands 0, or where the level may be restored the current level.
+// At most five levels in trial order, in fixed memory, since there is no heap. Past the count stands 0, or where the level may be restored the current level.
 #[derive(Clone, Copy)]
 pub struct Candidates {
     pub levels: [i32; 5],

@@ -1,12 +1,11 @@
 -- A call's answer is its outcome's. Assumes nothing.
 use Prim.Native.Nat.{ℕ}
-use mathlib.Core.Path.{◌≡◌, sym, ◌∙◌}
+use mathlib.Core.Path.{◌≡◌}
 use mathlib.Core.List.{List}
 use borrow.Author.Tests.{eq-eqb, ne_eqb}
 use lib.IntN.{ℤ}
 use lib.ListN.{length}
-use Rattle.block_tokens.specs.declared.Reply.{Reply}
-use Rattle.block_tokens.specs.declared.Reply.TheVariants.{Refused}
+use Rattle.block_tokens.specs.Reply.{Refused}
 use Rattle.block_tokens.specs.Tokens.{coded_levels}
 use Rattle.block_tokens.specs.Code.{code_in}
 use Rattle.block_tokens.specs.Writing.{Outputs, WriteResult, wrote, write_result}
@@ -23,12 +22,12 @@ module _ (g : Given) (levels : List ℤ) {n : ℕ} (e : n ≡ lent_refusal g lev
     unfolding read_outcome
     read-refused symbols bits = rw (← e, ne_eqb n 0 some)
 
-  module _ (none : n ≡ 0) where
-    pub written : (o : Outputs) (r : WriteResult) → r ≡ write_result (code_in g.coding) g.shape (coded_levels g.shape g.scan levels) o → r ≡ write_outcome g levels o
-    unfolding write_outcome
-    written o r d = rw (← e, eq-eqb n 0 none) d
+module _ (g : Given) (levels : List ℤ) (none : lent_refusal g levels ≡ 0) where
+  pub written : (o : Outputs) (r : WriteResult) → r ≡ write_result (code_in g.coding) g.shape (coded_levels g.shape g.scan levels) o → r ≡ write_outcome g levels o
+  unfolding write_outcome
+  written o r d = rw (eq-eqb _ 0 none) d
 
-    pub read : (symbols bits : List ℕ) (r : ReadResult) → r ≡ read_result g.shape g.scan (length symbols) levels (read_tokens (code_in g.coding) g.shape symbols bits)
-        → r ≡ read_outcome g symbols bits levels
-    unfolding read_outcome
-    read symbols bits r d = rw (← e, eq-eqb n 0 none) d
+  pub read : (symbols bits : List ℕ) (r : ReadResult) → r ≡ read_result g.shape g.scan (length symbols) levels (read_tokens (code_in g.coding) g.shape symbols bits)
+      → r ≡ read_outcome g symbols bits levels
+  unfolding read_outcome
+  read symbols bits r d = rw (eq-eqb _ 0 none) d

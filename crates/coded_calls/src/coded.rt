@@ -1,15 +1,15 @@
 // The tokens of one block, out and back (ticket 5): the count of nonzero levels from scan position c on, then each level from there until nothing remains. Both calls
 // are lent a code without prices: the number of clusters, the cluster of each context, and three bytes of configuration a cluster.
 //
-// A call answers its number of tokens, or a refusal by number: 1 to 4 of the code, 7, 8, 9 and 18 of the shape (levels and scan belong to 8), 11 of the scan, then its
+// A call answers its number of tokens, or a refusal: 1 to 4 of the code, 7, 8, 9 and 18 of the shape (levels and scan belong to 8), 11 of the scan, then its
 // own. A refused call changes nothing.
 ghost use Rattle.block_tokens.specs.Outcome.{given_of};
 ghost use Rattle.block_tokens.specs.Promise.{Write, Read};
+ghost use Rattle.block_tokens.specs.Reply.{reply_of};
 ghost use Rattle.block_tokens.specs.Writing.{outputs};
 
 use block::Shape;
-pub use block_tokens::Reply;
-use coding::code::Code;
+use refusals::Refusal;
 
 // Writes a block's tokens: the context of each, its symbol, the number of its extra bits, and these. 63c + 1 numbers are always room enough; nothing past the tokens
 // changes. 24: a level beyond ±32,768; 20: a value whose symbol is above 127; 23: an output too short.
@@ -24,24 +24,15 @@ pub fn write_tokens(
     symbols: &mut [u32],
     extra_bits: &mut [u32],
     bits: &mut [u32],
-) -> Reply
+) -> Result<u32, Refusal>
     ensures { Write (given_of clusters map.now configs.now shape scan.now) levels.now
-        (outputs contexts.old symbols.old extra_bits.old bits.old) result
+        (outputs contexts.old symbols.old extra_bits.old bits.old) (reply_of result)
         (outputs contexts.new symbols.new extra_bits.new bits.new) }
 {
-    match token_checks::check_lent(clusters, map, configs, shape, scan, levels) {
-        Ok(()) => {
-            let code = Code {
-                clusters,
-                map,
-                configs,
-            };
-            token_write::write_coded(
-                &code, shape, scan, levels, contexts, symbols, extra_bits, bits,
-            )
-        }
-        Err(refusal) => Reply::Refused(refusal.number()),
-    }
+    let code = token_checks::check_lent(clusters, map, configs, shape, scan, levels)?;
+    token_write::write_coded(
+        &code, shape, scan, levels, contexts, symbols, extra_bits, bits,
+    )
 }
 
 // Restores the levels from scan position c on from the symbols and extra bits of exactly one block's tokens, 0 past the last token; the first c stay. 22: the lists
@@ -56,18 +47,9 @@ pub fn read_tokens(
     symbols: &[u32],
     bits: &[u32],
     levels: &mut [i32],
-) -> Reply
-    ensures { Read (given_of clusters map.now configs.now shape scan.now) symbols.now bits.now levels.old result levels.new }
+) -> Result<u32, Refusal>
+    ensures { Read (given_of clusters map.now configs.now shape scan.now) symbols.now bits.now levels.old (reply_of result) levels.new }
 {
-    match token_checks::check_lent(clusters, map, configs, shape, scan, levels) {
-        Ok(()) => {
-            let code = Code {
-                clusters,
-                map,
-                configs,
-            };
-            token_read::read_coded(&code, shape, scan, symbols, bits, levels)
-        }
-        Err(refusal) => Reply::Refused(refusal.number()),
-    }
+    let code = token_checks::check_lent(clusters, map, configs, shape, scan, levels)?;
+    token_read::read_coded(&code, shape, scan, symbols, bits, levels)
 }

@@ -12,7 +12,7 @@ ghost use Rattle.coding.specs.Checked.{IsChecked};
 use code::Code;
 use refusals::Refusal;
 
-// Checks 1 to 4. `others`: whether the other lists that the caller was lent for each cluster have their lengths.
+// Checks 1 to 4. `others`: whether the other lists that the caller was lent for each cluster have their lengths, which is part of 2, between 1 and 3.
 #[tactic(auto, unfolding(crate::specs::Coding::coding_checks, laws::specs::Refusals::first_refused))]
 pub fn check_coding(clusters: u32, map: &[u8], configs: &[u8], others: bool) -> Result<(), Refusal>
     ensures { code_of result ≡ first_refused (coding_checks (coding_of clusters map.now configs.now) others) 0 }

@@ -25,7 +25,7 @@ use Rattle.least_cost.specs.Search.{holder}
 use Rattle.prices.specs.Book.{Book}
 use Rattle.scan.specs.Scan.{level_at}
 use Rattle.steps.specs.Plan.{Planned, Lists, Readable, Offered, Usable, listed}
-use Rattle.steps.specs.declared.reading.Plan.{Plan}
+use Rattle.steps.specs.declared.plan.Plan.{Plan}
 use Rattle.steps.specs.declared.reading.Offer.{Offer}
 use Rattle.steps.proofs.Counting.{among-most}
 use Rattle.steps.proofs.Ordered.{among-split}

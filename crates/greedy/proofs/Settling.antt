@@ -1,5 +1,5 @@
 -- The pass over the whole window, and what the call answers. Assumes nothing.
-use mathlib.Core.Path.{◌≡◌, refl, sym, ap, ◌∙◌}
+use mathlib.Core.Path.{◌≡◌, refl, ap, ◌∙◌}
 use mathlib.Core.Bool.{true}
 use mathlib.Core.List.{List}
 use Prim.Native.Nat.{ℕ, suc, ◌+◌, ◌-◌, ◌*◌, ◌≤◌, ◌<◌}
@@ -14,8 +14,6 @@ use Rattle.block.specs.Block.{Block, covered, input_at, input_remaining, ideal, 
 use Rattle.block.specs.Checks.{search_refusal, enough_room}
 use Rattle.block.specs.Answer.{Count, Refused}
 use Rattle.prices.specs.Book.{Book}
-use Rattle.prices.proofs.Passed.{listed, by-lists}
-use Rattle.problem.proofs.Refusals.{searched}
 use Rattle.scan.specs.Scan.{Perm}
 use Rattle.search_checks.specs.Checked.{Checked}
 use Rattle.search_checks.proofs.Checked.{base_short}
@@ -24,7 +22,7 @@ use Rattle.steps.proofs.Ordered.{among-split}
 use Rattle.steps.proofs.Plans.{planned-lists}
 use Rattle.search_checks.proofs.Refusing.{no_rows}
 use Rattle.steps.specs.Plan.{Planned, Lists}
-use Rattle.steps.specs.declared.reading.Plan.{Plan}
+use Rattle.steps.specs.declared.plan.Plan.{Plan}
 use Rattle.weights.specs.declared.Window.{Window}
 use Rattle.greedy.specs.declared.pass.Counts.{Counts}
 use Rattle.greedy.specs.Greedy.{settled_at, settled_from, greedy_levels, Outcome, outcome_of, searched_outcome, refusal, greedy_outcome}

@@ -13,7 +13,7 @@ use Rattle.prices.specs.Book.{Book}
 use Rattle.scan.specs.Scan.{Perm, level_at}
 use Rattle.scan.proofs.Through.{level-same, level-other}
 use Rattle.steps.specs.Plan.{Planned, Lists}
-use Rattle.steps.specs.declared.reading.Plan.{Plan}
+use Rattle.steps.specs.declared.plan.Plan.{Plan}
 use Rattle.steps.proofs.Counting.{among_first}
 use Rattle.greedy.specs.Greedy.{chosen, settled_at}
 use Rattle.greedy.specs.Reading.{Fitting, Ready, count_from}

@@ -4,7 +4,7 @@ use Rattle.block.specs.Block.{ideal_at, nonzeros_among}
 use Rattle.candidates.specs.Candidates.{is_current}
 use Rattle.candidates.specs.Nearest.{is_ideal}
 use Rattle.scan.specs.Scan.{Perm, level_at}
-use Rattle.steps.specs.declared.reading.Plan.{Plan}
+use Rattle.steps.specs.declared.plan.Plan.{Plan}
 
 -- a plan's window lies within its block
 pub record Fitting (p : Plan) : Type 0 where

@@ -14,7 +14,7 @@ ghost use Rattle.price_view.specs.View.{book_in};
 ghost use Rattle.block.specs.Answer.{answer_of};
 
 use block::{Answer, BlockData, Picked};
-use block_checks::{Asked, RoomLengths};
+use block_checks::{Asked, Limits, RoomLengths};
 use price_view::PriceView;
 use prices::book::PriceBook;
 
@@ -24,7 +24,7 @@ pub fn search_greedy(book: &PriceBook, block: &BlockData, levels: &mut [i32], ca
     ensures { let b = block_with block.now levels.old in
         outcome_of (answer_of result) levels.new ≡ searched_outcome (window_for cap (covered b)) (contents book.now) b }
 {
-    let plan = steps::reading::plan_of(block.shape, block.settings, block.bias, block.scale, cap);
+    let plan = steps::reading::plan_of(block, cap);
     let count = pass::settle(book, plan, block, levels);
     Ok(Picked {
         cost: None,
@@ -50,8 +50,10 @@ pub fn rdoq_block_greedy(
         view,
         block,
         levels,
-        half_width,
-        weights::WINDOW_CAP,
+        Limits {
+            half_width,
+            cap: weights::WINDOW_CAP,
+        },
         Asked {
             bytes: 0,
             floats: 0,

@@ -19,7 +19,7 @@ use Rattle.prices.specs.Book.{Book}
 use Rattle.steps.specs.Place.{distortion_at, rate_at, place_of}
 use Rattle.steps.specs.declared.Place.{Place}
 use Rattle.steps.specs.Plan.{Planned}
-use Rattle.steps.specs.declared.reading.Plan.{Plan}
+use Rattle.steps.specs.declared.plan.Plan.{Plan}
 use Rattle.steps.proofs.Local.{rate-same}
 use Rattle.steps.specs.Best.{considered}
 use Rattle.steps.specs.declared.best.Best.{Best}

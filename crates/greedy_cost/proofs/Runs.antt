@@ -12,7 +12,7 @@ use Rattle.least_cost.specs.Position.{nz}
 use Rattle.prices.specs.Book.{Book}
 use Rattle.scan.specs.Scan.{level_at}
 use Rattle.steps.specs.Plan.{Planned}
-use Rattle.steps.specs.declared.reading.Plan.{Plan}
+use Rattle.steps.specs.declared.plan.Plan.{Plan}
 use Rattle.greedy_cost.specs.Run.{run_start, zeros_from}
 
 module _ (scan : List ℕ) (levels : List ℤ) (c : ℕ) where

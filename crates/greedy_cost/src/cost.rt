@@ -3,17 +3,17 @@ ghost use Rattle.std.specs.Prelude.{◌≡◌, false, ◌+◌, ◌*◌, ◌<◌,
 ghost use Rattle.std.specs.Float.{inf};
 ghost use Rattle.bias.specs.Level.{is_level};
 ghost use Rattle.block.specs.Block.{Block};
-ghost use Rattle.candidates.specs.Candidates.{in_array};
 ghost use Rattle.least_cost.specs.Search.{holder};
 ghost use Rattle.prices.specs.Contents.{contents};
 ghost use Rattle.steps.specs.Place.{place_of};
-ghost use Rattle.steps.specs.Plan.{Planned, Coded, Usable, listed};
+ghost use Rattle.steps.specs.Plan.{Planned};
 ghost use Rattle.greedy_cost.specs.Cost.{prev_of, bits_of, cost_of};
 
 use prices::book::PriceBook;
 use steps::Place;
 use steps::best::Best;
-use steps::reading::Plan;
+use steps::plan::Plan;
+use steps::reading::CandidateList;
 
 // What stands around a position: the nonzero levels behind it and of all others, whether the level in front is nonzero, and the
 // price of the run.
@@ -47,7 +47,6 @@ fn bits(
     run: f32,
     level: i32,
 ) -> f32
-    requires coded { Coded plan }
     requires i_bound { (remaining + (plan.covered + i) ≤ 64 * plan.covered) × (prev ≤ 1) }
     requires t { T (is_level level) }
     ensures { (b : Block) → Planned b plan → result ≡ bits_of (contents book.now) b i remaining prev run level }
@@ -71,7 +70,6 @@ fn candidate_cost(
     around: Around,
     level: i32,
 ) -> f32
-    requires coded { Coded plan }
     requires i_bound { (around.later + 1 + (plan.covered + i) ≤ 64 * plan.covered) × ((around.others < 64 * plan.covered) × (around.front ≤ 1)) }
     requires t { T (is_level level) }
     ensures { (b : Block) → Planned b plan → place ≡ place_of b plan.log2 i
@@ -100,25 +98,22 @@ pub fn cheapest(
     book: &PriceBook,
     plan: Plan,
     place: Place,
-    levels: &[i32; 5],
-    count: usize,
+    candidates: &CandidateList,
     i: usize,
     around: Around,
     current: i32,
 ) -> i32
-    requires coded { Coded plan }
     requires i_bound { (around.later + 1 + (plan.covered + i) ≤ 64 * plan.covered) × ((around.others < 64 * plan.covered) × (around.front ≤ 1)) }
-    requires usable { Usable (in_array count levels.now) }
     requires t { T (is_level current) }
     ensures value { (b : Block) → Planned b plan → place ≡ place_of b plan.log2 i
-        → result ≡ holder (cost_of (contents book.now) b i around.later around.others around.front around.run) (inf false) current (listed (in_array count levels.now)) }
+        → result ≡ holder (cost_of (contents book.now) b i around.later around.others around.front around.run) (inf false) current candidates.now.levels.now }
     ensures level_kept { T (is_level result) }
 {
     let mut best = Best {
         cost: costs::infinity(),
         choice: current,
     };
-    for &level in &levels[..count] {
+    for &level in candidates.levels {
         let cost = candidate_cost(book, plan, place, i, around, level);
         best = best.consider(cost, level);
     }

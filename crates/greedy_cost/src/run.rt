@@ -2,11 +2,11 @@
 ghost use Rattle.std.specs.Prelude.{◌≡◌, ◌+◌, ◌-◌, ◌*◌, ◌<◌, ◌≤◌};
 ghost use Rattle.block.specs.Block.{Block};
 ghost use Rattle.prices.specs.Contents.{contents};
-ghost use Rattle.steps.specs.Plan.{Planned, Coded};
+ghost use Rattle.steps.specs.Plan.{Planned};
 ghost use Rattle.greedy_cost.specs.Run.{none, run_start, zeros_from, Windowed};
 
 use prices::book::PriceBook;
-use steps::reading::Plan;
+use steps::plan::Plan;
 
 // Where the zeros begin that stand right in front of window position i.
 pub fn run_start(scan: &[u32], levels: &[i32], covered: usize, i: usize) -> usize
@@ -24,8 +24,7 @@ pub fn run_start(scan: &[u32], levels: &[i32], covered: usize, i: usize) -> usiz
 // The prices of their tokens, summed front to back. The first has `prev` 1: a nonzero level stands before it, or it is the first
 // position and the whole count is 1.
 pub fn zeros(book: &PriceBook, plan: Plan, start: usize, end: usize) -> f32
-    requires coded { Coded plan }
-    requires start_le_end { (start ≤ end) × (plan.covered + end < 64 * plan.covered) }
+    requires { (start ≤ end) × (plan.covered + end < 64 * plan.covered) }
     ensures { (b : Block) → Planned b plan → result ≡ zeros_from (contents book.now) b (end - start) start 1 none }
 {
     let mut sum = 0.0f32;

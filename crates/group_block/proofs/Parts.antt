@@ -17,14 +17,14 @@ use Rattle.block.specs.declared.Picked.{Picked}
 use Rattle.block.specs.declared.Shape.{Shape}
 use Rattle.group_cells.specs.Cells.{Counted, predicted}
 use Rattle.group_list.specs.Heads.{Head, covered}
-use Rattle.group_run.specs.Block.{Numbers, Room, lent_with, size, shape_of, settings_of, bias_of, block_at, searched, count_in}
+use Rattle.group_run.specs.Block.{Numbers, Room, lent_with, size, block_at, searched, count_in}
 use Rattle.group_run.proofs.Outcomes.{count-within}
 use Rattle.prices.specs.Book.{Book}
 use Rattle.searches.specs.Outcome.{search_outcome}
 use Rattle.searches.specs.declared.Search.{Search}
 use Rattle.weights.specs.Window.{window_of}
 use Rattle.weights.specs.declared.Settings.{Settings}
-use Rattle.group_block.specs.Part.{part, in_place, numbers_from}
+use Rattle.group_block.specs.Part.{part, in_place, numbers_from, block_from}
 
 -- f: what the search finds of k numbers
 pub part-result : (at n : ℕ) (levels : List ℤ) (f : ℕ → Result) {answer : Answer} {after : List ℤ} {choices : List ℕ} {row_a row_b : List Float} → result_of answer after choices row_a row_b ≡ f (at + n - at)
@@ -52,10 +52,6 @@ count-picked picked = counted picked.cost picked.count
 pub count-few : (w : ℕ) (s : Search) (book : Book) (b : Block) (l : Lent) → l.levels ≡ b.levels → (at n : ℕ) (levels : List ℤ) {X : Result}
     → X ≡ in_place at n levels (search_outcome w (window_of (Block.covered b)) s book b l) → count_in X.answer ≤ 63 * Block.covered b
 count-few w s book b l own at n levels e = subst⁻¹ (λ (a : Answer). count_in a ≤ 63 * Block.covered b) (ap (λ (r : Result). r.answer) e) (count-within w book b l own s)
-
--- a block as the code searches it: p the count predicted, n numbers from `at` on
-abbrev pub block_from : Head → Numbers → ℕ → ℕ → ℕ → List ℤ → Block
-block_from h g at n p levels = block_of (shape_of h p) (settings_of h) (bias_of h) h.scale (part at n g.scans) (part at n g.sources) (part at n g.inverses) (part at n levels)
 
 -- .. is the list's next
 pub found-next : (s : Search) (book : Book) (h : Head) (g : Numbers) (at n p : ℕ) (levels : List ℤ) (room : Room) (done : List Counted) {X : Result}

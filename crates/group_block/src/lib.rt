@@ -1,20 +1,26 @@
 // One block of a group's list: read from the list, searched where its numbers lie, and its count written into its cells.
 #![tactic(auto)]
 
-ghost use Rattle.std.specs.Prelude.{◌≡◌, List, ℕ, ◌+◌, ◌*◌, ◌≤◌, ◌<◌, min, Float, length, get_or};
+pub mod lists;
+
+ghost use Rattle.std.specs.Prelude.{◌≡◌, ◌<◌, min, length};
 ghost use Rattle.block.specs.Answer.{answer_of};
-ghost use Rattle.block.specs.Block.{block_of, covered};
-ghost use Rattle.block.specs.Outcome.{lent_of, result_of};
+ghost use Rattle.block.specs.Block.{covered};
+ghost use Rattle.rooms.specs.Lending.{SameBuffers, lent_in, result_in};
 ghost use Rattle.prices.specs.Contents.{contents};
 ghost use Rattle.searches.specs.Outcome.{search_outcome};
-ghost use Rattle.group_list.specs.Heads.{head_at, blocks_in, PlacedAt};
-ghost use Rattle.group_run.specs.Block.{shape_of, settings_of, bias_of};
+ghost use Rattle.group_list.specs.Heads.{blocks_in};
+ghost use Rattle.group_run.specs.Block.{shape_of, settings_of, bias_of, size};
 ghost use Rattle.weights.specs.Window.{window_of};
-ghost use Rattle.group_block.specs.Part.{part, in_place, Stepped};
+ghost use Rattle.group_block.specs.Part.{in_place, block_from, Stepped};
+ghost use Rattle.group_block.specs.Lists.{head_in, numbers_in, room_in, IsLent};
 
 use bias::DequantBias;
 use block::{Answer, BlockData, Shape};
+use block_checks::Limits;
+use lists::{Lists, Part};
 use prices::book::PriceBook;
+use rooms::Room;
 use searches::Search;
 use weights::Settings;
 
@@ -26,11 +32,12 @@ fn narrow(x: u32) -> u8
 }
 
 // Block i's shape.
-#[tactic(auto, unfolding(group_list::specs::Heads::head_at))]
-fn shape_at(words: &[u32], i: usize, predicted: u8) -> Shape
-    requires { (i < blocks_in words.now) × (get_or words.now (8 * i + 5) 0 ≤ 2) }
-    ensures { (reals : List Float) → result ≡ shape_of (head_at words.now reals i) predicted }
+#[tactic(auto, unfolding(group_list::specs::Heads::head_at), using(group_list::proofs::Passed::here_placed, group_list::proofs::Passed::here_floats))]
+fn shape_at(lists: &Lists, i: usize, predicted: u8) -> Shape
+    requires { i < blocks_in lists.now.words.now }
+    ensures { result ≡ shape_of (head_in lists.now i) predicted }
 {
+    let words = lists.words;
     let strategy = narrow(words[8 * i + 4]);
     let channel = words[8 * i + 5] as u8;
     Shape {
@@ -44,11 +51,12 @@ fn shape_at(words: &[u32], i: usize, predicted: u8) -> Shape
 }
 
 // Block i's settings.
-#[tactic(auto, unfolding(group_list::specs::Heads::head_at))]
-fn settings_at(reals: &[f32], i: usize) -> Settings
-    requires { 7 * i + 7 ≤ length reals.now }
-    ensures { (words : List ℕ) → result ≡ settings_of (head_at words reals.now i) }
+#[tactic(auto, unfolding(group_list::specs::Heads::head_at), using(group_list::proofs::Passed::here_placed, group_list::proofs::Passed::here_floats))]
+fn settings_at(lists: &Lists, i: usize) -> Settings
+    requires { i < blocks_in lists.now.words.now }
+    ensures { result ≡ settings_of (head_in lists.now i) }
 {
+    let reals = lists.reals;
     Settings {
         channel_weight: reals[7 * i],
         lambda: reals[7 * i + 1],
@@ -58,104 +66,84 @@ fn settings_at(reals: &[f32], i: usize) -> Settings
 }
 
 // Block i's bias.
-#[tactic(auto, unfolding(group_list::specs::Heads::head_at))]
-fn bias_at(reals: &[f32], i: usize) -> DequantBias
-    requires { 7 * i + 7 ≤ length reals.now }
-    ensures { (words : List ℕ) → result ≡ bias_of (head_at words reals.now i) }
+#[tactic(auto, unfolding(group_list::specs::Heads::head_at), using(group_list::proofs::Passed::here_placed, group_list::proofs::Passed::here_floats))]
+fn bias_at(lists: &Lists, i: usize) -> DequantBias
+    requires { i < blocks_in lists.now.words.now }
+    ensures { result ≡ bias_of (head_in lists.now i) }
 {
     DequantBias {
-        one: reals[7 * i + 4],
-        numerator: reals[7 * i + 5],
+        one: lists.reals[7 * i + 4],
+        numerator: lists.reals[7 * i + 5],
     }
 }
 
-// Searches block i with the count predicted for it. Its n numbers of each list start at `at`.
+// Searches a block with the count predicted for it.
+#[tactic(auto, using(group_list::proofs::Passed::here_floats))]
 fn search_at(
     search: Search,
     book: &PriceBook,
-    words: &[u32],
-    reals: &[f32],
-    scans: &[u32],
-    sources: &[f32],
-    inv_qms: &[f32],
-    levels: &mut [i32],
-    choices: &mut [u8],
-    row_a: &mut [f32],
-    row_b: &mut [f32],
-    i: usize,
-    at: usize,
-    n: usize,
+    lists: &Lists,
+    part: Part,
     predicted: u8,
+    levels: &mut [i32],
+    room: &mut Room,
 ) -> Answer
-    requires i_in_bounds { i < blocks_in words.now }
-    requires channel_in_range { get_or words.now (8 * i + 5) 0 ≤ 2 }
-    requires reals_in_bounds { 7 * i + 7 ≤ length reals.now }
-    requires n_in_bounds { (at + n ≤ length scans.now) × ((at + n ≤ length sources.now) × ((at + n ≤ length inv_qms.now) × (at + n ≤ length levels.old))) }
-    ensures { let h = head_at words.now reals.now i in
-        let b = block_of (shape_of h predicted) (settings_of h) (bias_of h) h.scale (part at n scans.now) (part at n sources.now) (part at n inv_qms.now) (part at n levels.old) in
-        result_of (answer_of result) levels.new choices.new row_a.new row_b.new
-        ≡ in_place at n levels.old (search_outcome h.half_width (window_of (covered b)) search (contents book.now) b
-        (lent_of (part at n levels.old) choices.old row_a.old row_b.old)) }
+    requires index { part.index < blocks_in lists.now.words.now }
+    requires lent { IsLent part lists.now levels.old }
+    ensures same { SameBuffers room.old room.new }
+    ensures outcome { let h = head_in lists.now part.index in
+        let b = block_from h (numbers_in lists.now levels.old) part.at part.n predicted levels.old in
+        result_in (answer_of result) levels.new room.new
+        ≡ in_place part.at part.n levels.old (search_outcome h.half_width (window_of (covered b)) search (contents book.now) b
+        (lent_in b.levels room.old)) }
 {
+    let Part { index, at, n } = part;
     let end = at + n;
-    let half_width = words[8 * i + 7];
     let block = BlockData {
-        shape: shape_at(words, i, predicted),
-        settings: settings_at(reals, i),
-        bias: bias_at(reals, i),
-        scale: reals[7 * i + 6],
-        scan: &scans[at..end],
-        source: &sources[at..end],
-        inv_qm: &inv_qms[at..end],
+        shape: shape_at(lists, index, predicted),
+        settings: settings_at(lists, index),
+        bias: bias_at(lists, index),
+        scale: lists.reals[7 * index + 6],
+        scan: &lists.scans[at..end],
+        source: &lists.sources[at..end],
+        inv_qm: &lists.inv_qms[at..end],
     };
     searches::rdoq_block_checked(
         search,
         book,
         &block,
         &mut levels[at..end],
-        choices,
-        row_a,
-        row_b,
-        half_width,
-        weights::WINDOW_CAP,
+        room,
+        Limits {
+            half_width: lists.words[8 * index + 7],
+            cap: weights::WINDOW_CAP,
+        },
     )
 }
 
-// Settles block i, whose n numbers of each list start at `at`: searched with the count that the cells predict, it writes its own count into its cells.
-pub fn settle_block(
+// Settles a block: searched with the count that the cells predict, it writes its own count into its cells.
+pub fn settle_part(
     search: Search,
     book: &PriceBook,
-    words: &[u32],
-    reals: &[f32],
-    scans: &[u32],
-    sources: &[f32],
-    inv_qms: &[f32],
+    lists: &Lists,
+    part: Part,
     levels: &mut [i32],
-    choices: &mut [u8],
-    row_a: &mut [f32],
-    row_b: &mut [f32],
+    room: &mut Room,
     cells: &mut [u8],
-    i: usize,
-    at: usize,
-    n: usize,
 ) -> Answer
-    requires i_in_bounds { i < blocks_in words.now }
-    requires placed { PlacedAt words.now i }
-    requires reals_in_bounds { 7 * i + 7 ≤ length reals.now }
+    requires index { part.index < blocks_in lists.now.words.now }
+    requires n_is_size { part.n ≡ size (head_in lists.now part.index) }
+    requires lent { IsLent part lists.now levels.old }
     requires cells_len { length cells.old ≡ 3072 }
-    requires n_is_size { n ≡ 64 * (get_or words.now (8 * i + 2) 0 * get_or words.now (8 * i + 3) 0) }
-    requires n_in_bounds { (at + n ≤ length scans.now) × ((at + n ≤ length sources.now) × ((at + n ≤ length inv_qms.now) × (at + n ≤ length levels.old))) }
-    ensures { Stepped search (contents book.now)
-        (head_at words.now reals.now i)
-        (record { scans = scans.now; sources = sources.now; inverses = inv_qms.now; levels = levels.old }) at levels.old
-        (record { choices = choices.old; row_a = row_a.old; row_b = row_b.old }) cells.old
-        (result_of (answer_of result) levels.new choices.new row_a.new row_b.new) cells.new }
+    ensures same { SameBuffers room.old room.new }
+    ensures stepped { Stepped search (contents book.now)
+        (head_in lists.now part.index)
+        (numbers_in lists.now levels.old) part.at levels.old
+        (room_in room.old) cells.old
+        (result_in (answer_of result) levels.new room.new) cells.new }
 {
-    let predicted = group_counts::predicted_at(cells, words, i);
-    let picked = search_at(
-        search, book, words, reals, scans, sources, inv_qms, levels, choices, row_a, row_b, i, at,
-        n, predicted,
-    )?;
-    group_counts::write_count(cells, words, i, picked.count);
+    let predicted = group_counts::predicted_at(cells, lists.words, part.index);
+    let picked = search_at(search, book, lists, part, predicted, levels, room)?;
+    group_counts::write_count(cells, lists.words, part.index, picked.count);
     Ok(picked)
 }

@@ -2,7 +2,7 @@
 use mathlib.Core.Path.{◌≡◌, sym, ap, ◌∙◌, subst, subst⁻¹}
 use mathlib.Core.Bool.{Bool, true, false, ◌&&◌}
 use mathlib.Core.List.{List, [], ◌∷◌}
-use Prim.Native.Nat.{ℕ, ◌+◌, ◌-◌, ◌*◌, ◌≤◌, ◌<◌}
+use Prim.Native.Nat.{ℕ, ◌+◌, ◌-◌, ◌≤◌, ◌<◌}
 use native.Mathlib.Omega.{arith}
 use lib.Dec.{leb}
 use lib.IntN.{ℤ}
@@ -15,9 +15,9 @@ use Rattle.group_cells.specs.Cells.{Counted}
 use Rattle.group_cells.specs.Grid.{Grid}
 use Rattle.group_cells.proofs.Few.{few-blocks}
 use Rattle.group_list.specs.Checks.{list_refusal}
-use Rattle.group_list.specs.Heads.{head_at, heads_of, blocks_in, PlacedAt}
+use Rattle.group_list.specs.Heads.{head_at, heads_of, blocks_in}
 use Rattle.group_list.proofs.Channel.{heads-pass, list-passes}
-use Rattle.group_list.proofs.Order.{placed_at, blocks-number, floats-within}
+use Rattle.group_list.proofs.Order.{blocks-number}
 use Rattle.group_run.specs.Block.{Numbers, Room, room_of, lent_with, size, enough, searched, settles, count_in, refusal_in}
 use Rattle.group_run.specs.Group.{Settled, Stopped}
 use Rattle.group_run.proofs.Running.{enough-of}
@@ -28,12 +28,6 @@ use Rattle.group_calls.proofs.Loop.{SoFar, so-far-none, so-far-all, so-far-short
 
 -- ---- what a list that passed is known to be
 module _ (words : List ℕ) (reals : List Float) (none : list_refusal words reals ≡ 0) where
-  pub here-placed : (i : ℕ) → i < blocks_in words → PlacedAt words i
-  here-placed i h = placed_at words reals (heads-pass (heads_of words reals) (list-passes words reals none).1) i h
-
-  pub here-floats : (i : ℕ) → i < blocks_in words → 7 * i + 7 ≤ length reals
-  here-floats i h = floats-within words reals (list-passes words reals none).0 i h
-
   pub few : blocks_in words ≤ 3072
   few = subst (λ (n : ℕ). n ≤ 3072) (blocks-number words reals) (few-blocks (heads_of words reals) (heads-pass (heads_of words reals) (list-passes words reals none).1))
 
@@ -120,10 +114,3 @@ module _ (s : Search) (book : Book) (words : List ℕ) (reals : List Float) (g :
                 in-inverses = inside.1.1.0;
               })
               yes' (S.wrote L.done L.grid yes')
-
--- the buffers as records
-abbrev pub numbers : List ℕ → List Float → List Float → List ℤ → Numbers
-numbers scans sources inverses levels = record { scans = scans; sources = sources; inverses = inverses; levels = levels }
-
-abbrev pub room : List ℕ → List Float → List Float → Room
-room choices row_a row_b = record { choices = choices; row_a = row_a; row_b = row_b }

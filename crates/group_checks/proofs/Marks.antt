@@ -14,12 +14,11 @@ use Rattle.std.proofs.lemmas.List.{get_or-drop, length-drop}
 use Rattle.std.proofs.lemmas.List.Folds.{list_all_more}
 use lib.Ieee.{Float}
 use Rattle.group_cells.specs.Grid.{at, Written}
-use Rattle.group_list.specs.Checks.{in_order, Tested, sided, channelled, inside, apart, neighboured, whole_blocks, heads_refusal, list_refusal}
+use Rattle.group_list.specs.Checks.{in_order, Tested, sided, channelled, inside, apart, neighboured}
 use Rattle.group_list.specs.Heads.{Head, head_at, heads_before, heads_from, heads_of, blocks_in, covers, covering, in_rectangle}
 use Rattle.group_list.proofs.Order.{passed-at}
 use Rattle.group_list.proofs.Sides.{sides-of}
 use Rattle.laws.proofs.Tests.{and_left, and_right}
-use Rattle.laws.specs.Refusals.{first_refused}
 use Rattle.prices.specs.Checks.{each}
 use Rattle.prices.proofs.Each.{each_same, each_more, each-fails}
 use Rattle.group_checks.specs.Marks.{Marks, free_row, free_cells, near_left, near_up, PlacesRefused}
@@ -161,30 +160,3 @@ refused-31 words f g reals = rw (sym (f reals), sym (g reals))
 
 pub refused_none : (words : List ℕ) → Tested apart words true → Tested neighboured words true → PlacesRefused words 0
 refused_none words f g reals = rw (sym (f reals), sym (g reals))
-
--- ---- the whole list
-pub list-17 : (words : List ℕ) (reals : List Float) → whole_blocks words reals ≡ false → 17 ≡ list_refusal words reals
-unfolding list_refusal
-list-17 words reals e = rw e
-
-module _ (words : List ℕ) (reals : List Float) (whole : whole_blocks words reals ≡ true) where
-  pub list-7 : Tested sided words false → 7 ≡ list_refusal words reals
-  unfolding list_refusal heads_refusal first_refused
-  list-7 e = rw (whole, sym (e reals))
-
-  module _ (s : Tested sided words true) where
-    pub list-9 : Tested channelled words false → 9 ≡ list_refusal words reals
-    unfolding list_refusal heads_refusal first_refused
-    list-9 e = rw (whole, sym (s reals), sym (e reals))
-
-    module _ (c : Tested channelled words true) where
-      pub list-29 : Tested inside words false → 29 ≡ list_refusal words reals
-      unfolding list_refusal heads_refusal first_refused
-      list-29 e = rw (whole, sym (s reals), sym (c reals), sym (e reals))
-
-      pub list-places : Tested inside words true → {r : ℕ} → PlacesRefused words r → r ≡ list_refusal words reals
-      unfolding list_refusal heads_refusal first_refused
-      list-places e p = rw (whole, sym (s reals), sym (c reals), sym (e reals)) (p reals)
-
-pub tested-as : (p : List Head → Head → Bool) (words : List ℕ) {t u : Bool} → Tested p words t → t ≡ u → Tested p words u
-tested-as p words f e reals = sym e ∙ f reals

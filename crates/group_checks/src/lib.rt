@@ -114,6 +114,7 @@ fn near_up(marks: &[u8], channel: usize, x: usize, y: usize) -> bool
 }
 
 // 30 and 31, of a list that passed 7, 9 and 29. A block's cells are marked once it is tested, so that the whole is linear. 31 waits for the end of the list, since 30 comes first.
+#[tactic(auto, using(crate::proofs::Marks::placed_at))]
 fn places_on(words: &[u32], marks: &mut [u8]) -> Result<(), Refusal>
     requires marks { Marks words.now 0 marks.old }
     requires tested { Tested sided words.now true × (Tested channelled words.now true × Tested Within words.now true) }
@@ -150,6 +151,7 @@ fn places(words: &[u32]) -> Result<(), Refusal>
 }
 
 // The first of 17, 7, 9, 29, 30, 31 that the list meets.
+#[tactic(auto, unfolding(group_list::specs::Checks::list_refusal, group_list::specs::Checks::heads_refusal, laws::specs::Refusals::first_refused))]
 pub fn check_list(words: &[u32], reals: &[f32]) -> Result<(), Refusal>
     ensures { code_of result ≡ list_refusal words.now reals.now }
 {

@@ -12,7 +12,7 @@ use lib.Seq.{take-append-le}
 use Rattle.block.specs.Outcome.{Lent}
 use Rattle.group_cells.specs.Cells.{counted_of}
 use Rattle.group_list.specs.Channel.{of_channel}
-use Rattle.group_list.specs.Checks.{in_order, sided, heads_refusal, whole_blocks, list_refusal}
+use Rattle.group_list.specs.Checks.{in_order, heads_refusal, whole_blocks, list_refusal}
 use Rattle.group_list.specs.Heads.{Head, heads_of, heads_from}
 use Rattle.group_list.proofs.Channel.{heads-pass, list-passes, heads-alone}
 use Rattle.laws.specs.Refusals.{first_refused}

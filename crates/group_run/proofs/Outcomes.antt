@@ -6,13 +6,13 @@ use Prim.Native.Nat.{ℕ, zero, suc, ◌+◌, ◌*◌, ◌-◌, ◌≤◌}
 use native.Mathlib.Omega.{arith}
 use lib.Dec.{eqb}
 use lib.IntN.{ℤ}
-use lib.ListN.{length, get_or, replicate, length-replicate, length-set}
+use lib.ListN.{length, get_or, length-replicate, length-set}
 use lib.Ieee.{Float, inf}
 use lib.Ieee.Scale.{finite}
 use Rattle.beam.specs.Beam as Beam
 use Rattle.block.specs.Band.{problem_of}
 use Rattle.block.specs.Block.{Block, with_levels, covered, input_remaining}
-use Rattle.block.specs.Outcome.{Lent, Result, cleared, refused}
+use Rattle.block.specs.Outcome.{Lent, cleared, refused}
 use Rattle.block.specs.Answer.{Answer}
 use Rattle.block.specs.Answer.{Cost, Count, Refused}
 use Rattle.greedy.specs.Greedy as Greedy

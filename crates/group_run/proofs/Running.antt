@@ -20,12 +20,12 @@ use Rattle.group_list.specs.Heads.{Head, covered}
 use Rattle.group_list.proofs.Sides.{sides-of}
 use Rattle.prices.specs.Book.{Book}
 use Rattle.laws.proofs.Tests.{and_left, and_right}
-use Rattle.searches.specs.Outcome.{Demanded, search_outcome}
+use Rattle.searches.specs.Outcome.{Demanded}
 use Rattle.searches.specs.declared.Search.{Search}
 use Rattle.weights.specs.Window.{window_of}
 use Rattle.group_run.specs.Block.{Numbers, Room, room_of, lent_with, size, enough, rest, block_at, searched, settles, count_in, refusal_in}
 use Rattle.group_run.specs.Run.{Done, done_with, counted, Run, ended, followed, run}
-use Rattle.group_run.specs.Demand.{EachRuled, EachSmall, found_of, laid, settled_in}
+use Rattle.group_run.specs.Demand.{EachRuled, EachSmall, laid, settled_in}
 use Rattle.group_run.specs.Group.{Stopped}
 use Rattle.group_run.proofs.Outcomes.{meant, count-within, levels-length}
 

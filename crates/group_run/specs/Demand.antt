@@ -1,5 +1,5 @@
 -- What the answer of a list means: each settled block meets its search's rule with its derived prediction, and the channels do not touch each other.
-use Rattle.std.specs.Prelude.{ℕ, ◌+◌, ◌≤◌, ◌≡◌, cond, true, List, [], ◌∷◌, ◌++◌, eqb, ℤ, length, take, drop, Float}
+use Rattle.std.specs.Prelude.{ℕ, ◌≤◌, ◌≡◌, cond, true, List, [], ◌∷◌, ◌++◌, eqb, ℤ, length, take, drop, Float}
 use Rattle.block.specs.Outcome.{Lent, Result}
 use Rattle.group_cells.specs.Cells.{Counted, per_block}
 use Rattle.group_list.specs.Channel.{of_channel}

@@ -33,7 +33,7 @@ use Rattle.problem.proofs.Refusals.{searched, still-searched}
 use Rattle.search_checks.specs.Checked.{Checked, Searched}
 use Rattle.search_checks.proofs.Checked.{own-lists}
 use Rattle.search_checks.proofs.Refusing.{no_rows, window-of}
-use Rattle.steps.specs.declared.reading.Plan.{Plan}
+use Rattle.steps.specs.declared.plan.Plan.{Plan}
 use Rattle.trellis.specs.Demand.{LeastCost}
 use Rattle.trellis.specs.Outcome.{refusal, searched_outcome, banded_outcome}
 use Rattle.trellis.proofs.Demand.{least-answered}

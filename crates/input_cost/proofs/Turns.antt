@@ -22,7 +22,7 @@ use Rattle.search_checks.proofs.Checked.{bit-few, inner, readable-here, remainin
 use Rattle.steps.specs.Place.{place_of, context_at, local_in, local_at}
 use Rattle.steps.specs.Plan.{Readable, Whole}
 use Rattle.steps.specs.declared.Place.{Place}
-use Rattle.steps.specs.declared.reading.Plan.{Plan}
+use Rattle.steps.specs.declared.plan.Plan.{Plan}
 use Rattle.steps.proofs.Local.{local-is}
 use Rattle.steps.proofs.Zero.{current-level}
 use Rattle.input_cost.specs.Sum.{Within}
@@ -106,7 +106,7 @@ module _ {book : Book} {scan : List ℕ} {source inverse : List Float} {levels :
       pub covers-now : Covered x.covered x.log2 × (x.offset + 457 < 14850)
       unfolding place_of
       covers-now =
-          (rw (place, ← w.checked.planned.covered_is) w.checked.planned.covers, rw (place, ← w.checked.planned.offset_is) w.checked.coded.offset)
+          (rw (place, ← w.checked.planned.covered_is) w.checked.planned.covers, rw (place, ← w.checked.planned.offset_is) plan.coded.offset)
 
       pub coded_now : {r : ℕ} → r ≡ input_remaining w.block (covered w.block + i) → 0 < r → Coefficient x.covered r x.k 0
       unfolding place_of

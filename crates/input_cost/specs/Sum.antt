@@ -9,7 +9,7 @@ use Rattle.prices.specs.Book.{Book}
 use Rattle.scan.specs.Scan.{Perm}
 use Rattle.search_checks.specs.Checked.{positions}
 use Rattle.steps.specs.Plan.{Whole}
-use Rattle.steps.specs.declared.reading.Plan.{Plan}
+use Rattle.steps.specs.declared.plan.Plan.{Plan}
 use Rattle.weights.specs.declared.Window.{Window}
 use Rattle.input_cost.specs.declared.sum.Sum.{Sum}
 

@@ -14,7 +14,7 @@ ghost use Rattle.block.specs.Data.{block_with};
 ghost use Rattle.price_view.specs.View.{book_in};
 
 use block::{Answer, BlockData, Picked};
-use block_checks::{Asked, RoomLengths};
+use block_checks::{Asked, Limits, RoomLengths};
 use price_view::PriceView;
 use prices::book::PriceBook;
 
@@ -24,13 +24,7 @@ fn passed_cost(book: &PriceBook, block: &BlockData, levels: &[i32]) -> Picked
     ensures { let b = block_with block.now levels.now in
         answer_of (Ok result) ≡ Cost (input_cost (window_for 1024 (covered b)) (contents book.now) b) (input_remaining b (covered b)) }
 {
-    let plan = steps::reading::plan_of(
-        block.shape,
-        block.settings,
-        block.bias,
-        block.scale,
-        weights::WINDOW_CAP,
-    );
+    let plan = steps::reading::plan_of(block, weights::WINDOW_CAP);
     sum::cost_of(book, plan, block, levels)
 }
 
@@ -45,8 +39,10 @@ pub fn rdoq_input_cost(view: &PriceView, block: &BlockData, levels: &[i32]) -> A
         view,
         block,
         levels,
-        weights::HALF_WIDTH,
-        weights::WINDOW_CAP,
+        Limits {
+            half_width: weights::HALF_WIDTH,
+            cap: weights::WINDOW_CAP,
+        },
         Asked {
             bytes: 0,
             floats: 0,

@@ -7,14 +7,14 @@ ghost use Rattle.block.specs.Answer.{Cost, answer_of};
 ghost use Rattle.prices.specs.Contents.{contents};
 ghost use Rattle.search_checks.specs.Checked.{Searched};
 ghost use Rattle.steps.specs.Place.{local_at};
-ghost use Rattle.steps.specs.Plan.{Planned, Coded, Whole};
+ghost use Rattle.steps.specs.Plan.{Planned, Whole};
 ghost use Rattle.input_cost.specs.Input.{input_cost};
 ghost use Rattle.input_cost.specs.Sum.{prev_at, Summed, Within};
 
 use block::{BlockData, Picked};
 use prices::book::PriceBook;
 use search_checks::start;
-use steps::reading::Plan;
+use steps::plan::Plan;
 use steps::{Place, tokens};
 
 // What the levels from a window position on cost, and how many of them are nonzero.
@@ -52,7 +52,7 @@ fn local_cost(book: &PriceBook, place: Place, remaining: usize, prev: usize, lev
 
 // What follows the window.
 fn sum_past(book: &PriceBook, plan: Plan, scan: &[u32], levels: &[i32]) -> Sum
-    requires coded { Coded plan × Within plan scan.now levels.now }
+    requires { Within plan scan.now levels.now }
     ensures { (b : Block) → scan.now ≡ b.scan → levels.now ≡ b.levels → Planned b plan
         → Summed plan.window (contents book.now) b plan.window.length result }
 {

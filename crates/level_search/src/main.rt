@@ -3,24 +3,23 @@
 // first byte. A byte other than 0 says the high quant class.
 #![tactic(auto)]
 
-ghost use Rattle.std.specs.Prelude.{◌≡◌, ◌≤◌, length};
-ghost use Rattle.block_input.specs.Held.{Whole};
+ghost use Rattle.std.specs.Prelude.{◌≤◌, length};
+ghost use Rattle.block_file.specs.Within.{RecordInside};
 ghost use Rattle.level_search.specs.State.{Sound};
 
-use block_file::record::Kind;
-use block_file::{fields, record};
+use block_file::record::{Flaw, Record};
 use block_input::Held;
-use block_lists::{BookLengths, room};
+use block_lists::{BookLengths, Lists};
+use block_search::Line;
 use search_lines::OUT;
 use weights::HALF_WIDTH;
 
-// Where the program stands: the latest book and half-width, the next block's number, and how much of `out` is used.
+// Where the program stands: the latest book and half-width, and where the next line goes.
 #[derive(Clone, Copy)]
 struct State {
     book: BookLengths,
     half_width: u32,
-    number: u64,
-    used: usize,
+    line: Line,
 }
 
 fn beginning() -> State
@@ -29,68 +28,43 @@ fn beginning() -> State
     State {
         book: block_lists::no_book(),
         half_width: HALF_WIDTH,
-        number: 0,
-        used: 0,
+        line: Line { number: 0, used: 0 },
     }
 }
 
 // Takes a record: a book or a half-width stays until the next one, a block is searched.
 fn take_record(
-    kind: Kind,
+    found: Record,
     bytes: &[u8],
-    map: &mut [u8; record::MAP],
-    configs: &mut [u8; record::CONFIGS],
-    symbols: &mut [f32; record::SYMBOLS],
-    ready: &mut [f32; record::READY],
-    levels: &mut [i32; record::LEVELS],
-    work: &mut [i32; record::LEVELS],
-    scan: &mut [u32; record::LEVELS],
-    source: &mut [f32; record::LEVELS],
-    inv_qm: &mut [f32; record::LEVELS],
-    choices: &mut [u8; record::CHOICES],
-    row_a: &mut [f32; record::ROW],
-    row_b: &mut [f32; record::ROW],
+    lists: &mut Lists,
     out: &mut [u8; OUT],
     state: State,
 ) -> State
     requires sound { Sound state }
-    requires whole { Whole kind (length bytes.now) }
+    requires within { RecordInside found (length bytes.now) }
     ensures { Sound result }
 {
-    match kind {
-        Kind::Book => State {
-            book: block_lists::take_book(bytes, map, configs, symbols, ready),
+    match found {
+        Record::Book(book) => State {
+            book: block_lists::copy_book(bytes, book, lists),
             ..state
         },
-        Kind::Width => State {
-            half_width: fields::word_at(bytes, 1),
+        Record::Width(half_width) => State { half_width, ..state },
+        Record::Block(block) => State {
+            line: Line {
+                number: state.line.number.wrapping_add(1),
+                used: block_search::search_block(
+                    bytes,
+                    block,
+                    state.book,
+                    state.half_width,
+                    lists,
+                    out,
+                    state.line,
+                ),
+            },
             ..state
         },
-        Kind::Block => State {
-            number: state.number.wrapping_add(1),
-            used: block_search::search_record(
-                bytes,
-                state.half_width,
-                state.number,
-                state.book,
-                map,
-                configs,
-                symbols,
-                ready,
-                levels,
-                work,
-                scan,
-                source,
-                inv_qm,
-                choices,
-                row_a,
-                row_b,
-                out,
-                state.used,
-            ),
-            ..state
-        },
-        Kind::Short | Kind::Unreadable => state,
     }
 }
 
@@ -99,7 +73,7 @@ fn finish(out: &[u8; OUT], used: usize, held: Held)
     requires { used ≤ 65536 }
 {
     search_lines::write_used(out, used);
-    if held.kind == Kind::Unreadable {
+    if matches!(held.found, Err(Flaw::Unreadable)) {
         search_lines::say_unreadable(held.passed);
     }
 }
@@ -107,44 +81,17 @@ fn finish(out: &[u8; OUT], used: usize, held: Held)
 fn main() {
     let mut input = block_input::input_room();
     let mut out = io::large_buffer();
-    let mut map = room::map();
-    let mut configs = room::configs();
-    let mut symbols = room::symbols();
-    let mut ready = room::ready();
-    let mut levels = room::levels();
-    let mut work = room::levels();
-    let mut scan = room::scan();
-    let mut source = room::floats();
-    let mut inv_qm = room::floats();
-    let mut choices = room::choices();
-    let mut row_a = room::row();
-    let mut row_b = room::row();
+    let mut lists = Lists::new();
     let mut state = beginning();
     let mut held = block_input::next_record(&mut input, block_input::nothing_yet());
     // A proved loop has to end, and nothing says that a file does: no run uses this number up.
     for _ in 0..u64::MAX {
-        if !block_input::is_record(held) {
+        let Ok(found) = held.found else {
             break;
-        }
-        state = take_record(
-            held.kind,
-            block_input::held_bytes(&input, held),
-            &mut map,
-            &mut configs,
-            &mut symbols,
-            &mut ready,
-            &mut levels,
-            &mut work,
-            &mut scan,
-            &mut source,
-            &mut inv_qm,
-            &mut choices,
-            &mut row_a,
-            &mut row_b,
-            &mut out,
-            state,
-        );
+        };
+        let bytes = block_input::held_bytes(&input, held);
+        state = take_record(found, bytes, &mut lists, &mut out, state);
         held = block_input::next_record(&mut input, held);
     }
-    finish(&out, state.used, held);
+    finish(&out, state.line.used, held);
 }

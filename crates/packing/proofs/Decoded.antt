@@ -1,59 +1,55 @@
 -- What a symbol and its extra bits decode to, case by case as the code tests. Assumes nothing.
 use Prim.Native.Nat.{ℕ, suc, ◌+◌, ◌-◌, ◌*◌, ◌/◌, ◌%◌, ◌^◌, ◌≤◌, ◌<◌}
 use mathlib.Core.Path.{◌≡◌, refl, sym}
-use mathlib.Core.Bool.{Bool, true, false, ◌&&◌, cond}
+use mathlib.Core.Bool.{Bool, true, false, ◌&&◌, and-false}
 use native.Mathlib.Omega.{arith}
 use native.Mathlib.Nat.{le_trans, le_of_eq, lt_of_lt_of_le, mul-one, mul-le-mul_left}
 use lib.Dec.{leb, ltb}
 use lib.Pow.{pow_pos, pow_mono}
 use borrow.Author.Tests.{lt-ltb, le-ltb, lt-leb, le-leb, leb-true, leb-false, ltb-true, ltb-false}
-use Rattle.packing.specs.Hybrid.{extra_bits_read, read_hybrid, is_split, decoded}
+use Rattle.packing.specs.Hybrid.{extra_bits_read, read_hybrid, is_split}
 use Rattle.packing.proofs.Hybrid.{read-bits-small, read_small, read-bits-past, read_past, read-octave, both, split-of}
 
-cut : (c d : Bool) (x : ℕ) → d ≡ false → 131072 ≡ cond (c && d) x 131072
-cut true d x e = rw e
-cut false d x e = refl
-
 module _ (s m l t b : ℕ) where
-  pub symbol-none : 127 < t → 131072 ≡ decoded s m l t b
-  unfolding decoded is_split
+  pub symbol-none : 127 < t → is_split s m l t b ≡ false
+  unfolding is_split
   symbol-none h = simp (le-ltb t 128 h)
 
-  pub small-value : t < 128 → t < 2 ^ s → b ≡ 0 → t ≡ decoded s m l t b
-  unfolding decoded is_split
-  small-value low small e =
+  pub small-splits : t < 128 → t < 2 ^ s → b ≡ 0 → is_split s m l t b ≡ true
+  unfolding is_split
+  small-splits low small e =
       simp (lt-ltb t 128 low, read-bits-small s m l t small, e, read_small s m l t small 0, le-leb t 131071 (omega arith))
 
   -- more than the extra bits hold
-  pub bits_none : 2 ^ extra_bits_read s m l t ≤ b → 131072 ≡ decoded s m l t b
-  unfolding decoded is_split
+  pub bits_none : 2 ^ extra_bits_read s m l t ≤ b → is_split s m l t b ≡ false
+  unfolding is_split
   bits_none h = go (ltb t 128)
     where
-      go : (c : Bool) → 131072 ≡ cond (c && ltb b (2 ^ extra_bits_read s m l t) && leb (read_hybrid s m l t b) 131071) (read_hybrid s m l t b) 131072
+      go : (c : Bool) → c && ltb b (2 ^ extra_bits_read s m l t) && leb (read_hybrid s m l t b) 131071 ≡ false
       go true = simp (le-ltb b _ h)
       go false = refl
 
-  pub small-none : t < 2 ^ s → (b ≡ 0 → ⊥) → 131072 ≡ decoded s m l t b
+  pub small-none : t < 2 ^ s → (b ≡ 0 → ⊥) → is_split s m l t b ≡ false
   small-none small ne = bits_none (rw (read-bits-small s m l t small) (omega arith))
 
   module _ (h : m + l ≤ s) (big : 2 ^ s ≤ t) (j : ℕ) (e : j ≡ (t - 2 ^ s) / 2 ^ (m + l)) where
     bits-read : extra_bits_read s m l t ≡ s - m - l + j
     bits-read = rw e (read-bits-past s m l t big)
 
-    over_none : b < 2 ^ extra_bits_read s m l t → 16 < s + j → 131072 ≡ decoded s m l t b
-    unfolding decoded is_split
+    over_none : b < 2 ^ extra_bits_read s m l t → 16 < s + j → is_split s m l t b ≡ false
+    unfolding is_split
     over_none hb high =
         let over : 131071 < read_hybrid s m l t b = le_trans (pow_mono {i = 17} high) (read-octave s m l h t b j big e hb).0 in
-        cut (ltb t 128 && ltb b (2 ^ extra_bits_read s m l t)) (leb (read_hybrid s m l t b) 131071) _ (lt-leb _ _ over)
+        rw (lt-leb (read_hybrid s m l t b) 131071 over) (and-false (ltb t 128 && ltb b (2 ^ extra_bits_read s m l t)))
 
-    pub octave-none : 16 < s + j → 131072 ≡ decoded s m l t b
+    pub octave-none : 16 < s + j → is_split s m l t b ≡ false
     octave-none high = go (ltb b (2 ^ extra_bits_read s m l t)) refl
       where
-        go : (c : Bool) → ltb b (2 ^ extra_bits_read s m l t) ≡ c → 131072 ≡ decoded s m l t b
+        go : (c : Bool) → ltb b (2 ^ extra_bits_read s m l t) ≡ c → is_split s m l t b ≡ false
         go true d = over_none (ltb-true _ _ d) high
         go false d = bits_none (ltb-false _ _ d)
 
-    pub octave-bits-none : 2 ^ (s - m - l + j) ≤ b → 131072 ≡ decoded s m l t b
+    pub octave-bits-none : 2 ^ (s - m - l + j) ≤ b → is_split s m l t b ≡ false
     octave-bits-none hb = bits_none (rw bits-read hb)
 
     module _ (fits : b < 2 ^ (s - m - l + j)) where
@@ -67,9 +63,9 @@ module _ (s m l t b : ℕ) where
           in
           omega arith
 
-      pub octave-value : t < 128 → s + j ≤ 16 → read_hybrid s m l t b ≡ decoded s m l t b
-      unfolding decoded is_split
-      octave-value few low = simp (lt-ltb t 128 few, bits-read, lt-ltb b _ fits, le-leb _ 131071 (value-most low))
+      pub octave-splits : t < 128 → s + j ≤ 16 → is_split s m l t b ≡ true
+      unfolding is_split
+      octave-splits few low = simp (lt-ltb t 128 few, bits-read, lt-ltb b _ fits, le-leb _ 131071 (value-most low))
 
 -- ---- a pair that is a value's split
 

@@ -1,4 +1,3 @@
-mod Shifts
 mod Past
 mod Decoded
 pub mod Signed

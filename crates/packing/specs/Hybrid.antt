@@ -50,7 +50,3 @@ valid_config s m l = leb s 6 && leb (m + l) s
 -- The symbol is one of the 128, the number fits its extra bits, and what a decoder reads is at most 131,071.
 unfoldable pub is_split : (s m l t b : ℕ) → Bool
 is_split s m l t b = ltb t 128 && ltb b (2 ^ extra_bits_read s m l t) && leb (read_hybrid s m l t b) 131071
-
--- The value of such a pair; 131,072 where it is none's.
-unfoldable pub decoded : (s m l t b : ℕ) → ℕ
-decoded s m l t b = cond (is_split s m l t b) (read_hybrid s m l t b) 131072

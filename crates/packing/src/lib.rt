@@ -1,9 +1,9 @@
 // Packing of levels and splitting of values into a symbol and extra bits (document 01, module 1).
 #![tactic(auto)]
 
-ghost use Rattle.std.specs.Prelude.{◌≡◌, true, ◌≤◌, ◌<◌, ◌+◌, ◌*◌, ◌/◌, ◌%◌, ◌^◌, nat_abs};
+ghost use Rattle.std.specs.Prelude.{◌≡◌, true, ◌≤◌, ◌<◌, ◌+◌, ◌*◌, ◌/◌, ◌%◌, ◌^◌, nat_abs, SomeIff};
 ghost use Rattle.packing.specs.Signed.{pack_signed, unpack_signed};
-ghost use Rattle.packing.specs.Hybrid.{split, top_bit, valid_config, read_hybrid, is_split, decoded};
+ghost use Rattle.packing.specs.Hybrid.{split, top_bit, valid_config, read_hybrid, is_split};
 
 #[derive(Clone, Copy)]
 pub struct HybridUintConfig {
@@ -64,15 +64,11 @@ pub fn top_bit(v: u32) -> u32
 }
 
 // Whether a configuration passes check 4.
+#[tactic(auto, unfolding(crate::specs::Hybrid::valid_config))]
 pub fn valid_config(s: u8, m: u8, l: u8) -> bool
     ensures { result ≡ valid_config s m l }
 {
-    let s = s as u32;
-    let both = m as u32 + l as u32;
-    if s > 6 {
-        return false;
-    }
-    both <= s
+    s <= 6 && u32::from(m) + u32::from(l) <= u32::from(s)
 }
 
 // The symbol of a value of at most 131,071, and its extra bits.
@@ -114,6 +110,7 @@ fn joined(symbol: u32, bits: u32, m: u32, l: u32, extra_bits: u32) -> u32
 }
 
 // The value of a symbol with its extra bits, where they are the split of one.
+#[tactic(auto, using(crate::proofs::Hybrid::valid))]
 pub fn uint_read_with_config(symbol: u32, bits: u32, config: HybridUintConfig) -> u32
     requires lsb_in_token_value { valid_config config.split_exponent config.msb_in_token config.lsb_in_token ≡ true }
     requires bits_value { is_split config.split_exponent config.msb_in_token config.lsb_in_token symbol bits ≡ true }
@@ -130,36 +127,34 @@ pub fn uint_read_with_config(symbol: u32, bits: u32, config: HybridUintConfig) -
     joined(symbol, bits, m, l, s - m - l + above)
 }
 
-pub const NO_VALUE: u32 = 131072;
-
-// The value of a symbol with its extra bits, or NO_VALUE where they split no value up to 131,071. The value's top bit is tested before anything is
+// The value of a symbol with its extra bits; `None` where they split no value up to 131,071. The value's top bit is tested before anything is
 // shifted: under 0,0,0 symbol 127 stands for 2^126.
-pub fn uint_decode_with_config(symbol: u32, bits: u32, config: HybridUintConfig) -> u32
+#[tactic(auto, using(crate::proofs::Hybrid::valid))]
+pub fn uint_decode_with_config(symbol: u32, bits: u32, config: HybridUintConfig) -> Option<u32>
     requires { valid_config config.split_exponent config.msb_in_token config.lsb_in_token ≡ true }
-    ensures { result ≡ decoded config.split_exponent config.msb_in_token config.lsb_in_token symbol bits }
+    ensures { SomeIff result
+        (is_split config.split_exponent config.msb_in_token config.lsb_in_token symbol bits ≡ true)
+        (read_hybrid config.split_exponent config.msb_in_token config.lsb_in_token symbol bits) }
 {
     let s = config.split_exponent;
     let m = config.msb_in_token;
     let l = config.lsb_in_token;
     if symbol > 127 {
-        return NO_VALUE;
+        return None;
     }
     let small = power(s);
     if symbol < small {
-        if bits == 0 {
-            return symbol;
-        }
-        return NO_VALUE;
+        return if bits == 0 { Some(symbol) } else { None };
     }
     let above = (symbol - small) >> (m + l);
     if s + above > 16 {
-        return NO_VALUE;
+        return None;
     }
     let extra_bits = s - m - l + above;
     if bits >= power(extra_bits) {
-        return NO_VALUE;
+        return None;
     }
-    joined(symbol, bits, m, l, extra_bits)
+    Some(joined(symbol, bits, m, l, extra_bits))
 }
 
 // The level of a packed value of at most 65,536.

@@ -27,15 +27,15 @@ pub fn config_of(configs: &[u8], cluster: usize) -> HybridUintConfig
 {
     let at = 3 * cluster;
     HybridUintConfig {
-        split_exponent: configs[at] as u32,
-        msb_in_token: configs[at + 1] as u32,
-        lsb_in_token: configs[at + 2] as u32,
+        split_exponent: u32::from(configs[at]),
+        msb_in_token: u32::from(configs[at + 1]),
+        lsb_in_token: u32::from(configs[at + 2]),
     }
 }
 
 // The symbol and the extra bits of a value in a cluster.
 pub fn cluster_split(configs: &[u8], cluster: usize, value: u32) -> Split
-    requires cluster_in_bounds { 3 * cluster + 2 < length configs.now }
+    requires configs_in_bounds { 3 * cluster + 2 < length configs.now }
     requires cluster_value { cluster_valid configs.now cluster ≡ true }
     requires value_bound { value ≤ 131071 }
     ensures symbol_value { result.symbol ≡ cluster_symbol configs.now cluster value }
@@ -57,8 +57,8 @@ pub fn symbol_at(symbols: &[f32], cluster: usize, symbol: u32) -> f32
 
 // The price of a value in a cluster, by its split.
 pub fn cluster_price(configs: &[u8], symbols: &[f32], cluster: usize, value: u32) -> f32
-    requires cluster_in_bounds { 3 * cluster + 2 < length configs.now }
-    requires cluster_in_bounds_2 { 128 * cluster + 127 < length symbols.now }
+    requires configs_in_bounds { 3 * cluster + 2 < length configs.now }
+    requires symbols_in_bounds { 128 * cluster + 127 < length symbols.now }
     requires cluster_value { cluster_valid configs.now cluster ≡ true }
     requires value_bound { value ≤ 131071 }
     ensures { result ≡ cluster_price configs.now symbols.now cluster value }
@@ -101,7 +101,7 @@ impl<'a> PriceBook<'a> {
         requires value_bound { value ≤ 131071 }
         ensures { result ≡ price (contents self.now) context value }
     {
-        self.cluster_bits(self.map[context] as usize, value)
+        self.cluster_bits(usize::from(self.map[context]), value)
     }
 
     // The prices of a value in a context and the next one: the two `prev` contexts of a coefficient. Inlined, since a call of its own would cost the searches more.

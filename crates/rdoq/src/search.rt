@@ -6,6 +6,7 @@ pub use bias::DequantBias;
 pub use block::{Answer, BlockData, Picked, Shape};
 pub use greedy::rdoq_block_greedy;
 pub use input_cost::rdoq_input_cost;
+pub use rooms::Room;
 pub use searches::{Search, rdoq_block};
-pub use trellis::rdoq_block_banded;
+pub use trellis::{Walk, rdoq_block_banded};
 pub use weights::Settings;

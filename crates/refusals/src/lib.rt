@@ -280,3 +280,25 @@ impl fmt::Display for Refusal {
 // refusals: end
 
 impl Error for Refusal {}
+
+#[cfg(test)]
+mod tests {
+    use super::*;
+    use std::test::Fail;
+
+    // What is wrong, and what to mend, as docs/refusals.txt has them.
+    #[test]
+    fn says_what_to_mend(rt: HostRuntime) -> Result<(), Fail> {
+        let side = format!(in rt.alloc(); "{}", Refusal::BlockSide)?;
+        assert_eq!(rt;
+            side.as_str(),
+            "a side of the block is not 1, 2, 4, 8, 16 or 32: pass the sides in units of 8 samples"
+        );
+        let map = format!(in rt.alloc(); "{}", Refusal::MapEntry)?;
+        assert_eq!(rt;
+            map.as_str(),
+            "an entry of the map is not below the number of clusters: mend the map, or name more clusters"
+        );
+        Ok(())
+    }
+}

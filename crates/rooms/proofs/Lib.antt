@@ -1,1 +1,1 @@
-mod Fill
+pub mod Given

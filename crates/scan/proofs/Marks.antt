@@ -8,7 +8,9 @@ use native.Mathlib.Numerals.{add-one}
 use native.Mathlib.Omega.{arith}
 use borrow.Author.Count.{below_more}
 use borrow.Author.Tests.{lt-ltb, le-ltb, ltb-true, ne_eqb}
-use lib.Dec.{ltb, eqb, lit≤}
+use Rattle.std.proofs.lemmas.Bool.{leb-true, le-leb}
+use mir.Val.{bool_byte}
+use lib.Dec.{ltb, leb, eqb, lit≤}
 use lib.ListN.{length, get_or, set, take, replicate, length-replicate, get_or-replicate}
 use lib.Seq.{take-length, get_or-set_same, get_or-set_other}
 use Rattle.laws.proofs.Tests.{and_left, and_right}
@@ -24,6 +26,14 @@ refuted false n = refl
 -- the entry x at k is not below the length
 pub past_end : (s : List ℕ) (k : ℕ) {x : ℕ} → k < length s → x ≡ get_or s k 0 → length s ≤ x → each_once s ≡ false
 past_end s k h here g = refuted _ (λ e. lt_irrefl (length s) (omega (arith, bound s e k h)))
+
+-- a test that is counted
+pub counted : {x n : ℕ} → let out = bool_byte (leb n x) in (out ≤ 1) × ((x < n → out ≡ 0) × (n ≤ x → out ≡ 1))
+counted {x} {n} = of (leb n x) refl
+  where
+    of : (b : Bool) → leb n x ≡ b → (bool_byte b ≤ 1) × ((x < n → bool_byte b ≡ 0) × (n ≤ x → bool_byte b ≡ 1))
+    of true e = (omega arith, (λ l. absurd (lt_irrefl x (omega (arith, leb-true n x e, l))), λ g. refl))
+    of false e = (omega arith, (λ l. refl, λ g. absurd (true≢false (sym (le-leb n x g) ∙ e))))
 
 mark-none : mark_of 0 ≡ 0
 unfolding mark_of
@@ -130,9 +140,3 @@ marked-once {s} {m} t marked =
 
 abbrev pub clear : ℕ → List ℕ
 clear n = replicate n 0
-
-pub marks-clear :
-    (n : ℕ) (s : List ℕ) → 0 < n → length s ≤ n
-    → ((0 < length (clear n)) × (length s ≤ length (clear n))) × ((i : ℕ) → i < length s → get_or (clear n) i 0 ≡ 0)
-marks-clear n s some room =
-    ((rw length-replicate some, rw length-replicate room), λ i h. get_or-replicate n i 0 0 (omega arith))

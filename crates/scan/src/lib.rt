@@ -5,15 +5,8 @@ ghost use Rattle.std.specs.Prelude.{◌≡◌, true, ℕ, ◌+◌, ◌*◌, ◌/
 ghost use Rattle.scan.specs.Marks.{Marked, Marks, marked_below, byte_at, bit_at};
 ghost use Rattle.scan.specs.Scan.{each_once};
 
-// 0 for a number below n, else 1: added up without a branch.
-fn outside(x: usize, n: usize) -> usize
-    ensures { (result ≤ 1) × ((x < n → result ≡ 0) × (n ≤ x → result ≡ 1)) }
-{
-    if x < n { 0 } else { 1 }
-}
-
-// Marks the numbers met; whether all are below the length. With no early exit, and the index held to the marks (a power of two of them, so
-// by a mask), the loop is unrolled.
+// Marks the numbers met; whether all are below the length. With no early exit and no branch, and the index held to the marks (a power of two of them,
+// so by a mask), the loop is unrolled.
 fn mark(scan: &[u32], marks: &mut [u8]) -> bool
     requires marks_nonzero { (0 < length marks.old) × (length scan.now ≤ length marks.old) }
     requires by_index { (i : ℕ) → i < length scan.now → get_or marks.old i 0 ≡ 0 }
@@ -22,7 +15,7 @@ fn mark(scan: &[u32], marks: &mut [u8]) -> bool
     let mut bad = 0;
     for &number in scan {
         let x = number as usize;
-        bad += outside(x, scan.len());
+        bad += usize::from(x >= scan.len());
         marks[x % marks.len()] = 1;
     }
     bad == 0
@@ -60,19 +53,19 @@ fn word_of(x: usize, n: usize) -> usize
 fn mark_bit(scan: &[u32], words: &mut [u64], k: usize, bad: usize) -> usize
     requires words_nonzero { (0 < length words.old) × ((length scan.now ≤ 64 * length words.old) × (k < length scan.now)) }
     requires marks { Marks scan.now bad (bit_at words.old) k }
-    ensures marks_2 { Marks scan.now result (bit_at words.new) (k + 1) }
+    ensures marks_after { Marks scan.now result (bit_at words.new) (k + 1) }
     ensures words_len_unchanged { length words.new ≡ length words.old }
 {
     let x = scan[k] as usize;
     let at = word_of(x, words.len());
     words[at] = words[at] | (1 << (x % 64));
-    bad + outside(x, scan.len())
+    bad + usize::from(x >= scan.len())
 }
 
 fn mark_two(scan: &[u32], words: &mut [u64], k: usize, bad: usize) -> usize
     requires words_nonzero { (0 < length words.old) × ((length scan.now ≤ 64 * length words.old) × (k + 1 < length scan.now)) }
     requires marks { Marks scan.now bad (bit_at words.old) k }
-    ensures marks_2 { Marks scan.now result (bit_at words.new) (k + 2) }
+    ensures marks_after { Marks scan.now result (bit_at words.new) (k + 2) }
     ensures words_len_unchanged { length words.new ≡ length words.old }
 {
     let so_far = mark_bit(scan, words, k, bad);
@@ -82,7 +75,7 @@ fn mark_two(scan: &[u32], words: &mut [u64], k: usize, bad: usize) -> usize
 fn mark_four(scan: &[u32], words: &mut [u64], k: usize, bad: usize) -> usize
     requires words_nonzero { (0 < length words.old) × ((length scan.now ≤ 64 * length words.old) × (k + 3 < length scan.now)) }
     requires marks { Marks scan.now bad (bit_at words.old) k }
-    ensures marks_2 { Marks scan.now result (bit_at words.new) (k + 4) }
+    ensures marks_after { Marks scan.now result (bit_at words.new) (k + 4) }
     ensures words_len_unchanged { length words.new ≡ length words.old }
 {
     let so_far = mark_two(scan, words, k, bad);

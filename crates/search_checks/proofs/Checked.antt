@@ -16,11 +16,10 @@ use Rattle.block_checks.proofs.Reading.{readable, small-position, whole}
 use Rattle.candidates.specs.Candidates.{is_current}
 use Rattle.least_cost.specs.Position.{nz}
 use Rattle.prices.specs.Book.{Book}
-use Rattle.prices.specs.Checks.{book_refusal}
 use Rattle.problem.proofs.Problem.{among-most}
 use Rattle.scan.specs.Scan.{Perm}
-use Rattle.steps.specs.Plan.{Planned, Coded, Lists, Readable, Whole}
-use Rattle.steps.specs.declared.reading.Plan.{Plan}
+use Rattle.steps.specs.Plan.{Lists, Readable, Whole}
+use Rattle.steps.specs.declared.plan.Plan.{Plan}
 use Rattle.steps.proofs.Counting.{among_first}
 use Rattle.weights.proofs.Lengths.{base-few}
 use Rattle.search_checks.specs.Checked.{positions, Checked, Searched}

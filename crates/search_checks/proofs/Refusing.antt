@@ -1,5 +1,5 @@
 -- What the checks of a search let pass. Assumes nothing.
-use mathlib.Core.Path.{◌≡◌, refl, sym, ap, ◌∙◌, subst, subst⁻¹}
+use mathlib.Core.Path.{◌≡◌, refl, sym, ap, ◌∙◌, subst⁻¹}
 use mathlib.Core.Bool.{Bool, true, false, cond, ◌&&◌}
 use Prim.Native.Nat.{ℕ, ◌*◌, ◌≤◌, ◌<◌}
 use lib.Dec.{leb, leb→le, leb-zero}
@@ -9,10 +9,9 @@ use Rattle.block_checks.proofs.Laws.{passed, width_few}
 use Rattle.block_checks.specs.Passed.{Passed}
 use Rattle.laws.proofs.Tests.{and_left, and_right}
 use Rattle.prices.specs.Book.{Book}
-use Rattle.prices.proofs.Passed.{listed, by-lists}
 use Rattle.problem.proofs.Refusals.{searched, searched-width}
-use Rattle.steps.specs.Plan.{Planned, Coded}
-use Rattle.steps.specs.declared.reading.Plan.{Plan}
+use Rattle.steps.specs.Plan.{Planned}
+use Rattle.steps.specs.declared.plan.Plan.{Plan}
 use Rattle.weights.specs.Window.{window_for}
 use Rattle.weights.specs.declared.Window.{Window}
 use Rattle.search_checks.specs.Checked.{Accepted, Checked}
@@ -23,10 +22,6 @@ module _ (w cap : ℕ) (book : Book) (b : Block) (room : Bool) (none : search_re
   accepted some =
       let s = searched w _ book b room none in
       record { book_passed = s.0; passed = passed w cap b some s.1.0 }
-
-  -- .. by the book's lists
-  pub accepted-listed : 0 < cap → Accepted (window_for cap (covered b)) (listed book) b
-  accepted-listed some = subst (λ (k : Book). Accepted (window_for cap (covered b)) k b) (by-lists book (searched w _ book b room none).0) (accepted some)
 
   -- .. by the book that was checked
   pub accepted-checked : {checked : Book} → checked ≡ book → 0 < cap → Accepted (window_for cap (covered b)) checked b
@@ -43,10 +38,9 @@ pub window-of : (cap : ℕ) (b : Block) {v : Window} → v ≡ window_for cap (b
 unfolding covered
 window-of cap b e = e
 
-pub checked-of : (cap : ℕ) (b : Block) {book : Book} {p : Plan} → p.window ≡ window_for cap (b.shape.cx * b.shape.cy) → Accepted (window_for cap (covered b)) book b → Planned b p → Coded p
-    → Checked book b p
-checked-of cap b e a planned coded =
-    record { book_passed = a.book_passed; passed = subst⁻¹ (λ (v : Window). Passed v b) (window-of cap b e) a.passed; planned = planned; coded = coded }
+pub checked-of : (cap : ℕ) (b : Block) {book : Book} {p : Plan} → p.window ≡ window_for cap (b.shape.cx * b.shape.cy) → Accepted (window_for cap (covered b)) book b → Planned b p → Checked book b p
+checked-of cap b e a planned =
+    record { book_passed = a.book_passed; passed = subst⁻¹ (λ (v : Window). Passed v b) (window-of cap b e) a.passed; planned = planned }
 
 -- ---- room
 

@@ -11,7 +11,7 @@ use Rattle.block.specs.Band.{tail_of, past_window}
 use Rattle.block.specs.Cost.{tokens_from, tail_cost}
 use Rattle.prices.specs.Book.{Book}
 use Rattle.steps.specs.Plan.{Planned}
-use Rattle.steps.specs.declared.reading.Plan.{Plan}
+use Rattle.steps.specs.declared.plan.Plan.{Plan}
 
 module _ {b : Block} {p : Plan} {scan : List ℕ} {levels : List ℤ} (es : scan ≡ b.scan) (el : levels ≡ b.levels) (long : length b.scan ≡ 64 * covered b) (w : Planned b p) where
   from_is : p.covered + p.window.length ≡ covered b + p.window.length

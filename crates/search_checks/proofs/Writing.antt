@@ -2,7 +2,6 @@
 use mathlib.Core.Path.{◌≡◌, refl, sym, ap, ap₂, ◌∙◌, subst, subst⁻¹}
 use mathlib.Core.List.{List, [], ◌∷◌}
 use Prim.Native.Nat.{ℕ, zero, suc, ◌+◌, ◌*◌, ◌≤◌, ◌<◌, zero-le}
-use native.Mathlib.Omega.{arith}
 use native.Mathlib.Nat.{le_refl, le_antisymm}
 use native.Mathlib.Numerals.{add-one}
 use lib.Dec.{ltb}
@@ -16,7 +15,7 @@ use Rattle.scan.specs.Scan.{Perm, level_at, put}
 use Rattle.scan.proofs.Through.{put-more, put-after, put-length}
 use Rattle.steps.proofs.Plans.{planned-lists}
 use Rattle.steps.specs.Plan.{Planned, Lists, Readable, Offered, listed}
-use Rattle.steps.specs.declared.reading.Plan.{Plan}
+use Rattle.steps.specs.declared.plan.Plan.{Plan}
 use Rattle.steps.specs.declared.reading.Offer.{Offer}
 use Rattle.search_checks.specs.Checked.{Searched}
 use Rattle.search_checks.proofs.Checked.{inner, readable-here, level-current}

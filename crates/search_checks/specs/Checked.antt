@@ -6,8 +6,8 @@ use Rattle.block_checks.specs.Passed.{Passed}
 use Rattle.least_cost.specs.Position.{Position}
 use Rattle.prices.specs.Book.{Book}
 use Rattle.prices.specs.Checks.{book_refusal}
-use Rattle.steps.specs.Plan.{Planned, Coded, Lists}
-use Rattle.steps.specs.declared.reading.Plan.{Plan}
+use Rattle.steps.specs.Plan.{Planned, Lists}
+use Rattle.steps.specs.declared.plan.Plan.{Plan}
 use Rattle.weights.specs.declared.Window.{Window}
 
 -- the positions from i to the window's end
@@ -24,7 +24,6 @@ pub record Checked (book : Book) (b : Block) (p : Plan) : Type 0 where
   pub book_passed : book_refusal book ≡ 0
   pub passed : Passed p.window b
   pub planned : Planned b p
-  pub coded : Coded p
 
 -- a block that passed its checks, by what the code is handed of it
 pub record Searched (book : Book) (scan : List ℕ) (source inverse : List Float) (levels : List ℤ) (plan : Plan) : Type 0 where

@@ -1,5 +1,5 @@
 -- What follows the window, where a search starts.
-use Rattle.std.specs.Prelude.{ℕ, ◌≡◌}
+use Rattle.std.specs.Prelude.{◌≡◌}
 use Rattle.block.specs.Block.{Block}
 use Rattle.block.specs.Band.{past_window, tail_of}
 use Rattle.prices.specs.Book.{Book}

@@ -3,7 +3,7 @@
 
 pub mod start;
 
-ghost use Rattle.std.specs.Prelude.{◌≡◌, cond, ◌≤◌, ◌<◌};
+ghost use Rattle.std.specs.Prelude.{◌≡◌, cond, ◌≤◌};
 ghost use Rattle.block.specs.Block.{covered};
 ghost use Rattle.block.specs.Checks.{block_refusal, enough_room};
 ghost use Rattle.block.specs.Data.{block_with};
@@ -13,28 +13,27 @@ ghost use Rattle.weights.specs.Window.{window_for};
 ghost use Rattle.search_checks.specs.Book.{IsPassed};
 
 use block::BlockData;
-use block_checks::{Asked, RoomLengths};
+use block_checks::{Asked, Limits, RoomLengths};
 use price_view::PriceView;
 use prices::book::PriceBook;
 use refusals::Refusal;
 
-// The checks of a block and of its room, with a band of half-width `width` and a window of at most `cap` positions.
+// The checks of a block and of its room.
 pub fn check_block_and_room(
     block: &BlockData,
     levels: &[i32],
-    width: u32,
-    cap: usize,
+    limits: Limits,
     asked: Asked,
     room: RoomLengths,
 ) -> Result<(), Refusal>
-    requires { (asked.bytes ≤ 17179869184) × (0 < cap) }
+    requires { asked.bytes ≤ 17179869184 }
     ensures { let b = block_with block.now levels.now in
-        let v = window_for cap (covered b) in
-        code_of result ≡ block_refusal width v b (cond (enough_room asked.bytes asked.floats v.length room.choices room.row_a room.row_b) 0 14) }
+        let v = window_for limits.cap (covered b) in
+        code_of result ≡ block_refusal limits.half_width v b (cond (enough_room asked.bytes asked.floats v.length room.choices room.row_a room.row_b) 0 14) }
 {
-    block_checks::check_block(block, levels, width, cap)?;
+    block_checks::check_block(block, levels, limits.half_width, limits.cap)?;
     let shape = block.shape;
-    let window = weights::window_under(cap, shape.cx as usize * shape.cy as usize);
+    let window = weights::window_under(limits.cap, shape.cx as usize * shape.cy as usize);
     if !block_checks::enough_room(asked, window.length, room) {
         return Err(Refusal::Room);
     }
@@ -46,17 +45,16 @@ pub fn check_search<'a>(
     view: &PriceView<'a>,
     block: &BlockData,
     levels: &[i32],
-    width: u32,
-    cap: usize,
+    limits: Limits,
     asked: Asked,
     room: RoomLengths,
 ) -> Result<PriceBook<'a>, Refusal>
-    requires { (asked.bytes ≤ 17179869184) × (0 < cap) }
+    requires { asked.bytes ≤ 17179869184 }
     ensures { let b = block_with block.now levels.now in
-        let v = window_for cap (covered b) in
-        IsPassed width v (book_in view.now) b (enough_room asked.bytes asked.floats v.length room.choices room.row_a room.row_b) result }
+        let v = window_for limits.cap (covered b) in
+        IsPassed limits.half_width v (book_in view.now) b (enough_room asked.bytes asked.floats v.length room.choices room.row_a room.row_b) result }
 {
     let book = book_checks::checked_book(view)?;
-    check_block_and_room(block, levels, width, cap, asked, room)?;
+    check_block_and_room(block, levels, limits, asked, room)?;
     Ok(book)
 }

@@ -3,11 +3,11 @@ ghost use Rattle.std.specs.Prelude.{◌≡◌, ◌+◌, ◌*◌, ◌≤◌, leng
 ghost use Rattle.block.specs.Block.{Block, covered};
 ghost use Rattle.prices.specs.Contents.{contents};
 ghost use Rattle.scan.specs.Scan.{Perm};
-ghost use Rattle.steps.specs.Plan.{Planned, Coded, Whole};
+ghost use Rattle.steps.specs.Plan.{Planned, Whole};
 ghost use Rattle.search_checks.specs.Start.{Starts};
 
 use prices::book::PriceBook;
-use steps::reading::Plan;
+use steps::plan::Plan;
 use steps::tokens;
 
 // The nonzero levels past the window, and what they cost behind `prev` 0 and 1.
@@ -19,7 +19,6 @@ pub struct Start {
 }
 
 pub fn start_of(book: &PriceBook, plan: Plan, scan: &[u32], levels: &[i32]) -> Start
-    requires coded { Coded plan }
     requires whole { Whole plan.covered (plan.covered + plan.window.length) scan.now levels.now }
     requires length_in_bounds { plan.covered + plan.window.length ≤ length scan.now }
     requires perm { (Perm scan.now (length levels.now)) × (length levels.now ≤ 65536) }

@@ -12,8 +12,8 @@ use lib.Ieee.{Float, inf}
 use Rattle.beam.specs.Beam as Beam
 use Rattle.beam.proofs.Demand as BeamDemand
 use Rattle.block.specs.Block.{Block, covered}
-use Rattle.block.specs.Checks.{search_refusal, block_refusal, enough_room, states, valid_width}
-use Rattle.block.specs.Outcome.{Lent, Result, lent_of, result_of, cleared, refused}
+use Rattle.block.specs.Checks.{search_refusal, block_refusal, enough_room, valid_width}
+use Rattle.block.specs.Outcome.{Lent, Result, result_of, cleared, refused}
 use Rattle.block.specs.Answer.{Answer}
 use Rattle.block.specs.Answer.{Refused}
 use Rattle.block_checks.proofs.Laws.{passed, refused-book, refused-block}
@@ -22,7 +22,6 @@ use Rattle.greedy.specs.Greedy as Greedy
 use Rattle.greedy.proofs.Choosing as GreedyChoosing
 use Rattle.prices.specs.Book.{Book}
 use Rattle.prices.specs.Checks.{book_refusal}
-use Rattle.prices.proofs.Passed.{listed, by-lists}
 use Rattle.problem.proofs.Refusals.{width-free}
 use Rattle.search_checks.proofs.Refusing.{no_rows, room_of, accepted, accepted-room, accepted-width}
 use Rattle.trellis.specs.Outcome as Trellis
@@ -33,8 +32,9 @@ use Rattle.weights.specs.Window.{window_for, window_of}
 use Rattle.weights.specs.declared.Window.{Window}
 use Rattle.weights.proofs.Lengths.{whole-window}
 use Rattle.searches.specs.Accepted.{Searchable}
-use Rattle.searches.specs.Outcome.{asked_by, refusal_of, searched_outcome, search_outcome, AnyWidth, Demanded, PromisedIn, Promised}
+use Rattle.searches.specs.Outcome.{asked_by, refusal_of, searched_outcome, search_outcome, Demanded, PromisedIn, Promised}
 use Rattle.block_checks.specs.declared.Asked.{Asked}
+use Rattle.block_checks.specs.declared.RoomLengths.{RoomLengths}
 use Rattle.searches.specs.declared.Search.{Search}
 use Rattle.searches.specs.declared.Search.TheVariants.{Greedy, Beam, Trellis, Unfactored}
 
@@ -50,11 +50,11 @@ module _ (w : ℕ) (v : Window) (search : Search) (book : Book) (b : Block) (l :
   by-book e some = e ∙ sym (refused-book w v book b _ (λ z. some (e ∙ z)))
 
   -- .. or, that having passed, by the block and its room
-  pub by-check : book_refusal book ≡ 0 → {a : Asked} → a ≡ asked_by w search → {n : ℕ}
-      → n ≡ block_refusal w v b (cond (enough_room a.bytes a.floats v.length (length l.choices) (length l.row_a) (length l.row_b)) 0 14)
+  pub by-check : book_refusal book ≡ 0 → {a : Asked} → a ≡ asked_by w search → {r : RoomLengths} → r ≡ record { choices = length l.choices; row_a = length l.row_a; row_b = length l.row_b } → {n : ℕ}
+      → n ≡ block_refusal w v b (cond (enough_room a.bytes a.floats v.length r.choices r.row_a r.row_b) 0 14)
       → n ≡ refusal_of w v search book b l
   unfolding refusal_of
-  by-check ok e f = (rw e at f) ∙ sym (refused-block w v book b _ ok)
+  by-check ok e k f = (rw (e, k) at f) ∙ sym (refused-block w v book b _ ok)
 
   pub let-pass : refusal_of w v search book b l ≡ 0 → {after : Result} → after ≡ searched_outcome w v search book b l → after ≡ search_outcome w v search book b l
   unfolding search_outcome
@@ -119,11 +119,11 @@ module _ {w : ℕ} {v : Window} {search : Search} {book : Book} {b : Block} {l :
 
   pub trellis-room : search ≡ Trellis → Roomy w v l.choices l.row_a l.row_b
   unfolding asked_by
-  trellis-room e = roomy_of w v l.choices l.row_a l.row_b refl (rw e at S.room)
+  trellis-room e = roomy_of w v l.choices l.row_a l.row_b refl refl (rw e at S.room)
 
   pub unfactored-room : search ≡ Unfactored → Roomy w v l.choices l.row_a l.row_b
   unfolding asked_by
-  unfactored-room e = roomy_of w v l.choices l.row_a l.row_b refl (rw e at S.room)
+  unfactored-room e = roomy_of w v l.choices l.row_a l.row_b refl refl (rw e at S.room)
 
 module _ (w : ℕ) (v : Window) (search : Search) (book : Book) (b : Block) (l : Lent) where
   pub greedy-searched : {answer : Answer} {levels : List ℤ} → search ≡ Greedy → Greedy.outcome_of answer levels ≡ Greedy.searched_outcome v book b
@@ -131,11 +131,11 @@ module _ (w : ℕ) (v : Window) (search : Search) (book : Book) (b : Block) (l :
   unfolding searched_outcome
   greedy-searched which e = rw which (ap (λ (o : Greedy.Outcome). result_of o.answer o.levels l.choices l.row_a l.row_b) e)
 
-  pub beam-searched : {answer : Answer} {levels : List ℤ} {choices : List ℕ} {row_a row_b : List Float} → search ≡ Beam → Beam.outcome_of answer levels choices ≡ Beam.searched_outcome v book b l.choices
-      → row_a ≡ replicate (length l.row_a) (inf false) → row_b ≡ replicate (length l.row_b) (inf false) → result_of answer levels choices row_a row_b ≡ searched_outcome w v search book b l
+  pub beam-searched : {answer : Answer} {levels : List ℤ} {choices choices' : List ℕ} {row_a row_b : List Float} → search ≡ Beam → Beam.outcome_of answer levels choices ≡ Beam.searched_outcome v book b l.choices → choices' ≡ choices
+      → row_a ≡ replicate (length l.row_a) (inf false) → row_b ≡ replicate (length l.row_b) (inf false) → result_of answer levels choices' row_a row_b ≡ searched_outcome w v search book b l
   unfolding searched_outcome Beam.searched_outcome cleared
-  beam-searched which e f g =
-      rw which (rw (f, g) (ap (λ (o : Beam.Outcome). result_of o.answer o.levels o.choices (replicate (length l.row_a) (inf false)) (replicate (length l.row_b) (inf false))) e))
+  beam-searched which e k f g =
+      rw which (rw (k, f, g) (ap (λ (o : Beam.Outcome). result_of o.answer o.levels o.choices (replicate (length l.row_a) (inf false)) (replicate (length l.row_b) (inf false))) e))
 
   pub trellis-searched : {after : Result} → search ≡ Trellis → after ≡ Trellis.searched_outcome w v book b l → after ≡ searched_outcome w v search book b l
   unfolding searched_outcome

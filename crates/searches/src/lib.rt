@@ -3,12 +3,11 @@
 
 pub mod named;
 
-ghost use Rattle.std.specs.Prelude.{◌≡◌, ◌≤◌, ◌<◌};
+ghost use Rattle.std.specs.Prelude.{◌≡◌, ◌≤◌};
 ghost use Rattle.block.specs.Answer.{answer_of};
 ghost use Rattle.block.specs.Block.{covered};
-ghost use Rattle.block.specs.Checks.{choice_bytes, states};
 ghost use Rattle.block.specs.Data.{block_with};
-ghost use Rattle.block.specs.Outcome.{lent_of, result_of};
+ghost use Rattle.rooms.specs.Lending.{SameBuffers, lent_in, result_in};
 ghost use Rattle.price_view.specs.View.{book_in};
 ghost use Rattle.prices.specs.Contents.{contents};
 ghost use Rattle.weights.specs.Window.{window_for};
@@ -16,9 +15,11 @@ ghost use Rattle.searches.specs.Outcome.{PromisedIn, Promised, asked_by, searche
 ghost use Rattle.searches.specs.Accepted.{Searchable};
 
 use block::{Answer, BlockData};
-use block_checks::{Asked, RoomLengths};
+use block_checks::{Asked, Limits};
 use price_view::PriceView;
 use prices::book::PriceBook;
+use rooms::Room;
+use trellis::Walk::{Factored, Unfactored};
 
 // Which search. The last two are one search by two walks.
 #[derive(Clone, Copy, Debug, PartialEq, Eq)]
@@ -29,18 +30,7 @@ pub enum Search {
     Unfactored,
 }
 
-// By either walk of the trellis.
-fn banded(width: u32) -> Asked
-    ensures { (result.bytes ≡ choice_bytes width) × ((result.floats ≡ states width) × (result.bytes ≤ 17179869184)) }
-{
-    let bytes = trellis::choice_bytes(width as usize);
-    Asked {
-        bytes,
-        floats: 2 * bytes,
-    }
-}
-
-// The room that a search asks for.
+// The room that a search asks for. No plainer than an arm for each kind, here and in `search_block`: each has a call of its own.
 #[tactic(auto, unfolding(crate::specs::Outcome::asked_by))]
 fn asked_by(search: Search, width: u32) -> Asked
     ensures value { result ≡ asked_by width search }
@@ -55,8 +45,7 @@ fn asked_by(search: Search, width: u32) -> Asked
             bytes: beam::BEAM_BYTES,
             floats: 0,
         },
-        Search::Trellis => banded(width),
-        Search::Unfactored => banded(width),
+        Search::Trellis | Search::Unfactored => trellis::asked(width),
     }
 }
 
@@ -66,65 +55,49 @@ fn search_block(
     book: &PriceBook,
     block: &BlockData,
     levels: &mut [i32],
-    choices: &mut [u8],
-    row_a: &mut [f32],
-    row_b: &mut [f32],
-    width: u32,
-    cap: usize,
+    room: &mut Room,
+    limits: Limits,
 ) -> Answer
-    requires { let b = block_with block.now levels.old in let v = window_for cap (covered b) in Searchable width v search
-        (contents book.now) b (lent_of levels.old choices.old row_a.old row_b.old) }
-    ensures { let b = block_with block.now levels.old in
-        result_of (answer_of result) levels.new choices.new row_a.new row_b.new
-        ≡ searched_outcome width (window_for cap (covered b)) search (contents book.now) b
-        (lent_of levels.old choices.old row_a.old row_b.old) }
+    requires { let b = block_with block.now levels.old in let v = window_for limits.cap (covered b) in Searchable limits.half_width v search
+        (contents book.now) b (lent_in levels.old room.old) }
+    ensures same { SameBuffers room.old room.new }
+    ensures outcome { let b = block_with block.now levels.old in
+        result_in (answer_of result) levels.new room.new
+        ≡ searched_outcome limits.half_width (window_for limits.cap (covered b)) search (contents book.now) b
+        (lent_in levels.old room.old) }
 {
-    let half_width = width as usize;
     match search {
-        Search::Greedy => greedy::search_greedy(book, block, levels, cap),
+        Search::Greedy => greedy::search_greedy(book, block, levels, limits.cap),
         Search::Beam => {
-            let answer = beam::search_beam(book, block, levels, choices, cap);
-            rooms::clear_row(row_a);
-            rooms::clear_row(row_b);
+            let answer = beam::search_beam(book, block, levels, room.choices, limits.cap);
+            room.clear_rows();
             answer
         }
-        Search::Trellis => trellis::search_banded(
-            true, book, block, levels, choices, row_a, row_b, half_width, cap,
-        ),
-        Search::Unfactored => trellis::search_banded(
-            false, book, block, levels, choices, row_a, row_b, half_width, cap,
-        ),
+        Search::Trellis => trellis::search_banded(Factored, book, block, levels, room, limits),
+        Search::Unfactored => {
+            trellis::search_banded(Unfactored, book, block, levels, room, limits)
+        }
     }
 }
 
-// The checks of the block, then the search that is named, with a band of half-width `width` and a window of at most `cap` positions.
+// The checks of the block, then the search that is named.
 pub fn rdoq_block_checked(
     search: Search,
     book: &PriceBook,
     block: &BlockData,
     levels: &mut [i32],
-    choices: &mut [u8],
-    row_a: &mut [f32],
-    row_b: &mut [f32],
-    width: u32,
-    cap: usize,
+    room: &mut Room,
+    limits: Limits,
 ) -> Answer
-    requires { 0 < cap }
-    ensures { let b = block_with block.now levels.old in PromisedIn width (window_for cap (covered b)) search
+    ensures same { SameBuffers room.old room.new }
+    ensures outcome { let b = block_with block.now levels.old in PromisedIn limits.half_width (window_for limits.cap (covered b)) search
         (contents book.now) b
-        (lent_of levels.old choices.old row_a.old row_b.old)
-        (result_of (answer_of result) levels.new choices.new row_a.new row_b.new) }
+        (lent_in levels.old room.old)
+        (result_in (answer_of result) levels.new room.new) }
 {
-    let asked = asked_by(search, width);
-    let room = RoomLengths {
-        choices: choices.len(),
-        row_a: row_a.len(),
-        row_b: row_b.len(),
-    };
-    search_checks::check_block_and_room(block, levels, width, cap, asked, room)?;
-    search_block(
-        search, book, block, levels, choices, row_a, row_b, width, cap,
-    )
+    let asked = asked_by(search, limits.half_width);
+    search_checks::check_block_and_room(block, levels, limits, asked, room.lengths())?;
+    search_block(search, book, block, levels, room, limits)
 }
 
 // The same of any book: its checks come first.
@@ -133,22 +106,17 @@ pub fn rdoq_block_in(
     view: &PriceView,
     block: &BlockData,
     levels: &mut [i32],
-    choices: &mut [u8],
-    row_a: &mut [f32],
-    row_b: &mut [f32],
-    width: u32,
-    cap: usize,
+    room: &mut Room,
+    limits: Limits,
 ) -> Answer
-    requires { 0 < cap }
-    ensures { let b = block_with block.now levels.old in PromisedIn width (window_for cap (covered b)) search
+    ensures same { SameBuffers room.old room.new }
+    ensures outcome { let b = block_with block.now levels.old in PromisedIn limits.half_width (window_for limits.cap (covered b)) search
         (book_in view.now) b
-        (lent_of levels.old choices.old row_a.old row_b.old)
-        (result_of (answer_of result) levels.new choices.new row_a.new row_b.new) }
+        (lent_in levels.old room.old)
+        (result_in (answer_of result) levels.new room.new) }
 {
     let book = book_checks::checked_book(view)?;
-    rdoq_block_checked(
-        search, &book, block, levels, choices, row_a, row_b, width, cap,
-    )
+    rdoq_block_checked(search, &book, block, levels, room, limits)
 }
 
 // Re-picks the levels of a block by the search that is named, over all that a caller lends. Greedy touches no room, whatever its lengths. The beam asks for choice
@@ -159,25 +127,24 @@ pub fn rdoq_block(
     block: &BlockData,
     half_width: u32,
     levels: &mut [i32],
-    choices: &mut [u8],
-    row_a: &mut [f32],
-    row_b: &mut [f32],
+    room: &mut Room,
 ) -> Answer
-    ensures { Promised half_width search
+    ensures same { SameBuffers room.old room.new }
+    ensures outcome { Promised half_width search
         (book_in view.now)
         (block_with block.now levels.old)
-        (lent_of levels.old choices.old row_a.old row_b.old)
-        (result_of (answer_of result) levels.new choices.new row_a.new row_b.new) }
+        (lent_in levels.old room.old)
+        (result_in (answer_of result) levels.new room.new) }
 {
     rdoq_block_in(
         search,
         view,
         block,
         levels,
-        choices,
-        row_a,
-        row_b,
-        half_width,
-        weights::WINDOW_CAP,
+        room,
+        Limits {
+            half_width,
+            cap: weights::WINDOW_CAP,
+        },
     )
 }

@@ -4,15 +4,17 @@
 
 ghost use Rattle.std.specs.Prelude.{◌≡◌, ◌*◌, leb};
 ghost use Rattle.block.specs.Block.{block_of};
-ghost use Rattle.block.specs.Outcome.{lent_of, result_of};
+ghost use Rattle.rooms.specs.Lending.{SameBuffers, lent_in, result_in};
 ghost use Rattle.small.specs.Small.{Promised};
 ghost use Rattle.block.specs.Data.{block_with};
 ghost use Rattle.price_view.specs.View.{book_in};
 ghost use Rattle.block.specs.Answer.{answer_of};
 
 use block::{Answer, BlockData};
+use block_checks::Limits;
 use price_view::PriceView;
 use refusals::Refusal;
+use rooms::Room;
 use searches::Search;
 
 // The window's positions.
@@ -32,15 +34,14 @@ pub fn rdoq_small_block(
     view: &PriceView,
     block: &BlockData,
     levels: &mut [i32],
-    choices: &mut [u8],
-    row_a: &mut [f32],
-    row_b: &mut [f32],
+    room: &mut Room,
 ) -> Answer
-    ensures { Promised search
+    ensures same { SameBuffers room.old room.new }
+    ensures outcome { Promised search
         (book_in view.now)
         (block_with block.now levels.old)
-        (lent_of levels.old choices.old row_a.old row_b.old)
-        (result_of (answer_of result) levels.new choices.new row_a.new row_b.new) }
+        (lent_in levels.old room.old)
+        (result_in (answer_of result) levels.new room.new) }
 {
     if !is_small(block.shape.cx, block.shape.cy) {
         return Err(Refusal::NotSmall);
@@ -50,10 +51,10 @@ pub fn rdoq_small_block(
         view,
         block,
         levels,
-        choices,
-        row_a,
-        row_b,
-        weights::HALF_WIDTH,
-        SMALL_WINDOW,
+        room,
+        Limits {
+            half_width: weights::HALF_WIDTH,
+            cap: SMALL_WINDOW,
+        },
     )
 }

@@ -5,7 +5,7 @@ use lib.IntN.{ℤ}
 use lib.Ieee.{Float}
 use Rattle.block.specs.Block.{Block, block_of, covered, context_of}
 use Rattle.steps.specs.Plan.{Planned}
-use Rattle.steps.specs.declared.reading.Plan.{Plan}
+use Rattle.steps.specs.declared.plan.Plan.{Plan}
 
 pub planned-lists : (b : Block) {p : Plan} → Planned b p → (scan : List ℕ) (source inverse : List Float) (levels : List ℤ) → Planned (block_of b.shape b.settings b.bias b.scale scan source inverse levels) p
 unfolding covered context_of

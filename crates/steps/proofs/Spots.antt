@@ -17,7 +17,7 @@ use Rattle.scan.specs.Scan.{level_at}
 use Rattle.weights.specs.Settings.{weight_at, scaled_weight}
 use Rattle.steps.specs.Place.{place_of, nonzero_rate}
 use Rattle.steps.specs.Plan.{Planned, Lists, Offered, Usable, listed}
-use Rattle.steps.specs.declared.reading.Plan.{Plan}
+use Rattle.steps.specs.declared.plan.Plan.{Plan}
 
 -- the candidates as the leaf hands them over
 pub filled-usable : (x : Float) (q : ℤ) (restore : Bool) (c : Candidates) → T (is_ideal x) → T (is_current q) → c ≡ filled (filler q restore) (candidates_of x q restore) → Usable c

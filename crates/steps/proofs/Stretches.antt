@@ -19,15 +19,13 @@ use Rattle.packing.specs.Signed.{pack_signed}
 use Rattle.least_cost.proofs.Trial.{nz-le}
 use Rattle.least_cost.specs.Position.{nz}
 use Rattle.prices.specs.Book.{Book, book_in, price, cluster_price}
-use Rattle.prices.specs.Checks.{ClusterPassed}
 use Rattle.prices.specs.Contents.{contents}
 use Rattle.prices.specs.declared.book.PriceBook.{PriceBook}
 use Rattle.prices.proofs.Held.{mapped}
-use Rattle.prices.proofs.Passed.{Passed, priced-in}
 use Rattle.scan.specs.Scan.{level_at}
-use Rattle.steps.specs.Plan.{Planned, Coded}
+use Rattle.steps.specs.Plan.{Planned}
 use Rattle.steps.specs.Tail.{Shared, Standing, Continued, cluster_at}
-use Rattle.steps.specs.declared.reading.Plan.{Plan}
+use Rattle.steps.specs.declared.plan.Plan.{Plan}
 use Rattle.steps.specs.declared.tail.Stretch.{Stretch}
 use Rattle.steps.specs.declared.tail.Tail.{Tail}
 use Rattle.steps.proofs.Counting.{among_first, among-most}
@@ -109,12 +107,12 @@ cluster-by n a b prev cluster e x y = subst⁻¹ (λ k. k < n) e (go (eqb prev 0
     go false = y
 
 -- both clusters of a stretch are the book's
-pub both-clusters : (book : PriceBook) {p : Plan} {n k : ℕ} {s : Stretch} → Coded p → Coefficient p.covered n k 0 → Shared p book.map.now k n s
+pub both-clusters : (book : PriceBook) (p : Plan) {n k : ℕ} {s : Stretch} → Coefficient p.covered n k 0 → Shared p book.map.now k n s
     → (s.zero < (contents book).clusters) × (s.one < (contents book).clusters)
-both-clusters book {p} {n} {k} {s} w co sh =
-    let few = pair-below (covered-some w.covers) co in
-    let zero = mapped book (p.offset + zero_density_context p.covered n k 0) (omega (arith, few, w.offset)) in
-    let one = mapped book (p.offset + zero_density_context p.covered n k 1) (omega (arith, few, next-context p.covered n k, w.offset)) in
+both-clusters book p {n} {k} {s} co sh =
+    let few = pair-below (covered-some p.coded.covers) co in
+    let zero = mapped book (p.offset + zero_density_context p.covered n k 0) (omega (arith, few, p.coded.offset)) in
+    let one = mapped book (p.offset + zero_density_context p.covered n k 1) (omega (arith, few, next-context p.covered n k, p.coded.offset)) in
     (rw (sh.zero_is n k sh.counted (le_refl n) (le_refl k) sh.here) at zero, rw (sh.one_is n k sh.counted (le_refl n) (le_refl k) sh.here) at one)
 
 -- the next token is a coefficient's, where nonzero levels are left

@@ -13,7 +13,7 @@ use Rattle.least_cost.specs.Position.{nz}
 use Rattle.prices.specs.Book.{Book}
 use Rattle.scan.specs.Scan.{level_at}
 use Rattle.steps.specs.Plan.{Planned}
-use Rattle.steps.specs.declared.reading.Plan.{Plan}
+use Rattle.steps.specs.declared.plan.Plan.{Plan}
 
 pub tokens-done : (book : Book) (b : Block) (n k p : ℕ) (s : Float) → tokens_from book b n 0 k p s ≡ s
 unfolding tokens_from

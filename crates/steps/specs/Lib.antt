@@ -1,3 +1,4 @@
+pub mod Coded
 pub mod Place
 pub mod Plan
 pub mod Tail

@@ -1,5 +1,5 @@
 -- All that prices a level at one window position, gathered in a record, and the costs in its terms. What a block gives for its position i is `place_of`.
-use Rattle.std.specs.Prelude.{ℕ, ◌+◌, ◌*◌, cond, eqb, ℤ, Float}
+use Rattle.std.specs.Prelude.{ℕ, ◌+◌, cond, eqb, ℤ, Float}
 use Rattle.std.specs.Float.Ieee.{add, mul}
 use Rattle.std.specs.Float.{binary32}
 use Rattle.ac_context.specs.Contexts.{fine_zero_density_contexts_offset, zero_density_context}

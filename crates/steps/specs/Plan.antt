@@ -12,7 +12,7 @@ use Rattle.weights.specs.Settings.{channel_scale, scaled_weight, restore_rate}
 use Rattle.weights.specs.Window.{base_len}
 use Rattle.weights.specs.declared.Window.{Window}
 use Rattle.steps.specs.declared.reading.Offer.{Offer}
-use Rattle.steps.specs.declared.reading.Plan.{Plan}
+use Rattle.steps.specs.declared.plan.Plan.{Plan}
 
 -- p is what a block's shape, settings, bias and scale give; its window is a choice of its own
 pub record Planned (b : Block) (p : Plan) : Type 0 where
@@ -28,12 +28,6 @@ pub record Planned (b : Block) (p : Plan) : Type 0 where
   pub lambda_is : p.lambda ≡ b.settings.lambda
   pub restore_is : p.restore_rate ≡ restore_rate b.settings
   pub source_is : p.scale ≡ b.scale
-
--- the contexts of a plan exist
-pub record Coded (p : Plan) : Type 0 where
-  pub covers : Covered p.covered p.log2
-  pub offset : p.offset + 457 < 14850
-  pub count : p.count_context < 14850
 
 -- these are the lists of a block
 pub record Lists (b : Block) (scan : List ℕ) (source inverse : List Float) (levels : List ℤ) : Type 0 where
@@ -60,6 +54,11 @@ pub record Usable (c : Candidates) : Type 0 where
   pub few : c.count ≤ 5
   pub five : length c.levels ≡ 5
   pub levels : (j : ℕ) → j < c.count → T (is_level (get_or c.levels j (pos 0)))
+
+-- what a search may pick at a position: at most five levels, each of which has a bias
+pub record Pickable (levels : List ℤ) : Type 0 where
+  pub few : length levels ≤ 5
+  pub level : (j : ℕ) → j < length levels → T (is_level (get_or levels j (pos 0)))
 
 -- costs holds what g gives for each level
 pub record Each (g : ℤ → Float) (levels : List ℤ) (costs : List Float) : Type 0 where

@@ -6,7 +6,7 @@ use Rattle.block.specs.Cost.{tokens_from}
 use Rattle.candidates.specs.Candidates.{is_current}
 use Rattle.prices.specs.Book.{Book}
 use Rattle.scan.specs.Scan.{level_at}
-use Rattle.steps.specs.declared.reading.Plan.{Plan}
+use Rattle.steps.specs.declared.plan.Plan.{Plan}
 use Rattle.steps.specs.declared.tail.Stretch.{Stretch}
 use Rattle.steps.specs.declared.tail.Tail.{Tail}
 

@@ -2,6 +2,7 @@
 #![tactic(auto)]
 
 pub mod best;
+pub mod plan;
 pub mod reading;
 mod tail;
 pub mod tokens;
@@ -43,13 +44,14 @@ pub fn nonzero(level: i32) -> usize
     usize::from(level != 0)
 }
 
-// The one of two that is for `prev`.
+// The one of two that is for `prev`, which is a number, since contexts and indices add it.
 pub fn by_prev<T: Copy>(prev: usize, zero: T, one: T) -> T
     ensures { result ≡ cond (eqb prev 0) zero one }
 {
     if prev == 0 { zero } else { one }
 }
 
+// The ideal at scan position k. `scale` is the block's, handed over apart: what a search knows of it, it knows of its plan's.
 pub fn ideal_at(block: &BlockData, scale: f32, k: usize) -> f32
     requires k_in_bounds { k < length block.now.scan.now }
     requires k_in_bounds_2 { get_or block.now.scan.now k 0 < length block.now.source.now }
@@ -97,7 +99,7 @@ impl Place {
         }
     }
 
-    // The token's context with `prev` 0, or 0 where nothing remains.
+    // The token's context with `prev` 0, or 0 where nothing remains: no coefficient's context, and the number that definitions have.
     pub fn context(self, remaining: usize) -> usize
         requires covered { Covered self.covered self.log2 }
         requires coefficient { 0 < remaining → Coefficient self.covered remaining self.k 0 }

@@ -1,39 +1,21 @@
 // What is worked out once for a block, and what a search reads of it at one window position.
-ghost use Rattle.std.specs.Prelude.{◌≡◌, true, cond, T, eqb, [], length, ◌+◌, ◌*◌, ◌<◌, ◌≤◌};
+ghost use Rattle.std.specs.Prelude.{◌≡◌, true, cond, List, ℤ, T, eqb, length, ◌+◌, ◌*◌, ◌<◌, ◌≤◌};
 ghost use Rattle.least_cost.specs.Position.{nz};
 ghost use Rattle.ac_context.specs.Contexts.{is_power_below};
-ghost use Rattle.block.specs.Block.{Block, block_of, input_at, ideal as idealOf, covered as covered_by};
+ghost use Rattle.block.specs.Block.{Block, input_at, ideal as idealOf, covered as covered_by};
+ghost use Rattle.block.specs.Data.{block_with};
 ghost use Rattle.candidates.specs.Candidates.{in_array, is_current};
 ghost use Rattle.scan.specs.Scan.{level_at};
 ghost use Rattle.weights.specs.Settings.{scaled_weight};
 ghost use Rattle.weights.specs.Window.{window_for};
 ghost use Rattle.steps.specs.Place.{distortion_at, place_of};
-ghost use Rattle.steps.specs.Plan.{Planned, Coded, Lists, Readable, Offered, listed, Usable, Each};
+ghost use Rattle.steps.specs.Plan.{Planned, Lists, Readable, Offered, Usable, Pickable, Each};
 
 use crate::Place;
-use bias::DequantBias;
-use block::{BlockData, Shape};
-use weights::{Settings, Window};
+use crate::plan::Plan;
+use block::BlockData;
 
-// What a block's shape, settings, bias and scale give; `far_weight` is the weight of each position past the base length.
-#[derive(Clone, Copy)]
-pub struct Plan {
-    pub covered: usize,
-    pub log2: u32,
-    pub window: Window,
-    pub base: usize,
-    pub offset: usize,
-    pub count_context: usize,
-    pub channel_scale: f32,
-    pub distance: f32,
-    pub far_weight: f32,
-    pub bias: DequantBias,
-    pub lambda: f32,
-    pub restore_rate: f32,
-    pub scale: f32,
-}
-
-// What a window position offers beside its candidates, which stand in an array: the ideal, how many candidates there are, and the level that is there.
+// What a window position offers beside its candidates, which stand in a lent array, so that no search copies them: the ideal, how many candidates there are, and the level that is there.
 #[derive(Clone, Copy)]
 pub struct Offer {
     pub ideal: f32,
@@ -41,18 +23,26 @@ pub struct Offer {
     pub level: i32,
 }
 
+// The candidates of one window position, in trial order.
+#[derive(Clone, Copy)]
+pub struct CandidateList<'a> {
+    pub levels: &'a [i32],
+    ghost pickable: { Pickable levels.now },
+}
+
 // The window has at most `cap` positions.
-pub fn plan_of(shape: Shape, settings: Settings, bias: DequantBias, scale: f32, cap: usize) -> Plan
-    requires cx_value { (is_power_below 6 shape.cx ≡ true) × (is_power_below 6 shape.cy ≡ true) }
-    requires strategy_bound { (shape.strategy ≤ 26) × (shape.channel ≤ 2) }
-    ensures planned { Planned (block_of shape settings bias scale [] [] [] []) result }
-    ensures coded { Coded result }
-    ensures window_value { result.window ≡ window_for cap (shape.cx * shape.cy) }
+pub fn plan_of(block: &BlockData, cap: usize) -> Plan
+    requires cx_value { (is_power_below 6 block.now.shape.cx ≡ true) × (is_power_below 6 block.now.shape.cy ≡ true) }
+    requires strategy_bound { (block.now.shape.strategy ≤ 26) × (block.now.shape.channel ≤ 2) }
+    ensures planned { (levels : List ℤ) → Planned (block_with block.now levels) result }
+    ensures window_value { result.window ≡ window_for cap (block.now.shape.cx * block.now.shape.cy) }
 {
+    let shape = block.shape;
+    let settings = block.settings;
     let covered = shape.cx as usize * shape.cy as usize;
-    let block = ac_context::fine_block_context(
-        shape.channel as usize,
-        shape.strategy as usize,
+    let context = ac_context::fine_block_context(
+        usize::from(shape.channel),
+        usize::from(shape.strategy),
         shape.qf_hi,
     );
     let base = weights::base_len(covered);
@@ -63,15 +53,18 @@ pub fn plan_of(shape: Shape, settings: Settings, bias: DequantBias, scale: f32, 
         log2: ac_context::log2_covered(covered),
         window: weights::window_under(cap, covered),
         base,
-        offset: ac_context::fine_zero_density_contexts_offset(block) as usize,
-        count_context: ac_context::fine_non_zero_context(shape.predicted as u32, block) as usize,
+        offset: ac_context::fine_zero_density_contexts_offset(context) as usize,
+        count_context: ac_context::fine_non_zero_context(
+            u32::from(shape.predicted),
+            context,
+        ) as usize,
         channel_scale,
         distance: settings.distance,
         far_weight,
-        bias,
+        bias: block.bias,
         lambda: settings.lambda,
         restore_rate: settings.restore_rate(),
-        scale,
+        scale: block.scale,
     }
 }
 
@@ -136,12 +129,11 @@ impl Plan {
 }
 
 // The distortion of each candidate.
-pub fn distortions(place: Place, levels: &[i32; 5], count: usize, distortion: &mut [f32; 5])
-    requires usable { Usable (in_array count levels.now) }
-    requires distortion_len { length distortion.old ≡ 5 }
-    ensures { Each (distortion_at place) (listed (in_array count levels.now)) distortion.new }
+pub fn distortions(place: Place, candidates: &CandidateList, distortion: &mut [f32; 5])
+    requires { length distortion.old ≡ 5 }
+    ensures { Each (distortion_at place) candidates.now.levels.now distortion.new }
 {
-    for (j, &level) in levels[..count].iter().enumerate() {
+    for (j, &level) in candidates.levels.iter().enumerate() {
         distortion[j] = place.distortion(level);
     }
 }

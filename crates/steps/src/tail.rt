@@ -10,10 +10,10 @@ ghost use Rattle.candidates.specs.Candidates.{is_current};
 ghost use Rattle.packing.specs.Signed.{pack_signed};
 ghost use Rattle.prices.specs.Book.{cluster_price};
 ghost use Rattle.prices.specs.Contents.{contents};
-ghost use Rattle.steps.specs.Plan.{Planned, Coded, Whole};
+ghost use Rattle.steps.specs.Plan.{Planned, Whole};
 ghost use Rattle.steps.specs.Tail.{Shared, Standing, Continued};
 
-use crate::reading::Plan;
+use crate::plan::Plan;
 use prices::Pair;
 use prices::book::PriceBook;
 
@@ -37,8 +37,7 @@ struct Stretch {
 }
 
 fn stretch_at(book: &PriceBook, plan: Plan, remaining: usize, k: usize) -> Stretch
-    requires coded { Coded plan }
-    requires coefficient { Coefficient plan.covered remaining k 0 }
+    requires { Coefficient plan.covered remaining k 0 }
     ensures { Shared plan book.now.map.now k remaining result }
 {
     let covered = plan.covered;
@@ -46,8 +45,8 @@ fn stretch_at(book: &PriceBook, plan: Plan, remaining: usize, k: usize) -> Stret
         + ac_context::zero_density_context(remaining, k, covered, plan.log2, 0);
     let end = (k / covered + 1) * covered;
     let least = (remaining - 1) / covered * covered + 1;
-    let zero = book.map[context] as usize;
-    let one = book.map[context + 1] as usize;
+    let zero = usize::from(book.map[context]);
+    let one = usize::from(book.map[context + 1]);
     Stretch {
         end,
         least,
@@ -118,7 +117,6 @@ pub(crate) fn add_tokens(
     levels: &[i32],
     from: Tail,
 ) -> Pair
-    requires coded { Coded plan }
     requires scan_len { length scan.now ≡ 64 * plan.covered }
     requires standing { Standing scan.now levels.now from }
     requires covered_le_k { plan.covered ≤ from.k }

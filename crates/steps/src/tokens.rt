@@ -10,9 +10,9 @@ ghost use Rattle.candidates.specs.Candidates.{is_current};
 ghost use Rattle.prices.specs.Contents.{contents};
 ghost use Rattle.least_cost.specs.Position.{nz};
 ghost use Rattle.scan.specs.Scan.{Perm, sum_to};
-ghost use Rattle.steps.specs.Plan.{Planned, Coded, Whole};
+ghost use Rattle.steps.specs.Plan.{Planned, Whole};
 
-use crate::reading::Plan;
+use crate::plan::Plan;
 use crate::tail;
 use crate::tail::Tail;
 use prices::Pair;
@@ -64,7 +64,6 @@ pub fn token_bits(
     prev: usize,
     level: i32,
 ) -> f32
-    requires coded { Coded plan }
     requires coefficient { Coefficient plan.covered remaining k prev }
     requires t { T (is_level level) }
     ensures { (b : Block) → Planned b plan → result ≡ token_price (contents book.now) b remaining k prev level }
@@ -84,7 +83,6 @@ fn token_cost(
     prev: usize,
     level: i32,
 ) -> f32
-    requires coded { Coded plan }
     requires coefficient { Coefficient plan.covered remaining k prev }
     requires t { T (is_current level) }
     ensures { (b : Block) → Planned b plan → result ≡ mul binary32 plan.lambda (token_price (contents book.now) b remaining k prev level) }
@@ -97,13 +95,12 @@ pub fn first_prev(covered: usize, count: usize) -> usize
     requires { covered ≤ 1024 }
     ensures { result ≡ cond (leb count (64 * covered / 16)) 1 0 }
 {
-    if count <= 64 * covered / 16 { 1 } else { 0 }
+    usize::from(count <= 64 * covered / 16)
 }
 
 // lambda times the price of the count.
 pub fn count_cost(book: &PriceBook, plan: Plan, count: usize) -> f32
-    requires coded { Coded plan }
-    requires count_bound { count ≤ 65536 }
+    requires { count ≤ 65536 }
     ensures { (b : Block) → Planned b plan → result ≡ count_cost (contents book.now) b count }
 {
     plan.lambda * book.token_bits(plan.count_context, count as u32)
@@ -118,7 +115,6 @@ pub fn tail_costs(
     from: usize,
     count: usize,
 ) -> Pair
-    requires coded { Coded plan }
     requires whole { Whole plan.covered from scan.now levels.now }
     requires covered_le_from { (plan.covered ≤ from) × (from ≤ length scan.now) }
     requires count_value { count ≡ nonzeros_among scan.now levels.now from (length scan.now - from) }

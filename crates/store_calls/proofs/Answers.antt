@@ -4,13 +4,14 @@ use mathlib.Core.Path.{◌≡◌, refl, sym, ap, ap₂, subst, ◌∙◌}
 use mathlib.Core.Bool.{Bool, true, false, cond, true≢false}
 use mathlib.Core.List.{List}
 use native.Mathlib.Omega.{arith}
-use borrow.Author.Tests.{ltb-true, lt-ltb, le-ltb, le-leb, lt-leb, eq-eqb, ne_eqb}
+use borrow.Author.Tests.{ltb-true, lt-ltb, le-leb, lt-leb, eq-eqb, ne_eqb}
 use lib.Dec.{eqb, ltb}
 use lib.ListN.{length, get_or, set, take, drop}
 use Rattle.std.proofs.Common.{Option, Some, None}
 use Rattle.std.specs.Option.{is_some}
 use Rattle.store_record.specs.Placed.{placed}
-use Rattle.store_record.specs.Runs.{Run, run_at, runs_from, runs_of, recorded, headed, holds, others, live}
+use Rattle.store_record.specs.Runs.{run_at, runs_from, runs_of, recorded, headed, holds, others, live}
+use Rattle.store_record.specs.declared.Run.{Run}
 use Rattle.store_record.specs.Tokens.{tokens_of}
 use Rattle.store_record.proofs.Headed.{headed-set}
 use Rattle.store_record.proofs.Order.{order-end, order-others}

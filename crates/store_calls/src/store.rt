@@ -26,7 +26,7 @@ pub fn put(room: &mut [u64], rec: &mut [u64], block: u32, tokens: &[u64]) -> Res
     ensures { Put (store_of room.old rec.old) block tokens.now (code_of result) (store_of room.new rec.new) }
 {
     check_lent(room, rec, block)?;
-    let number = block as u64;
+    let number = u64::from(block);
     let live = store_passes::live_but(rec, rec[0] as usize, number);
     if tokens.len() > room.len() - live {
         return Err(Refusal::StoreFull);
@@ -40,7 +40,7 @@ pub fn drop(room: &[u64], rec: &mut [u64], block: u32) -> Result<(), Refusal>
     ensures { Dropped (store_of room.now rec.old) block (code_of result) (store_of room.now rec.new) }
 {
     check_lent(room, rec, block)?;
-    let number = block as u64;
+    let number = u64::from(block);
     let count = rec[0] as usize;
     if store_passes::find(rec, count, number).is_none() {
         return Err(Refusal::NotHeld);
@@ -56,14 +56,14 @@ pub fn read(room: &[u64], rec: &[u64], block: u32, tokens: &mut [u64]) -> Result
 {
     check_lent(room, rec, block)?;
     let count = rec[0] as usize;
-    let Some(i) = store_passes::find(rec, count, block as u64) else {
+    let Some(i) = store_passes::find(rec, count, u64::from(block)) else {
         return Err(Refusal::NotHeld);
     };
-    let start = rec[3 * i + 2] as usize;
-    let size = rec[3 * i + 3] as usize;
+    let run = store_record::run_at(rec, i);
+    let size = run.size as usize;
     if size > tokens.len() {
         return Err(Refusal::BufferShort);
     }
-    store_room::copy_run(room, start, size, tokens, 0);
+    store_room::copy_run(room, run.start as usize, size, tokens, 0);
     Ok(size)
 }

@@ -9,7 +9,8 @@ use lib.Dec.{leb}
 use lib.ListN.{length, get_or, set, take, drop, length-append}
 use lib.Seq.{take-length}
 use Rattle.store_record.specs.Placed.{placed}
-use Rattle.store_record.specs.Runs.{Run, run, runs_from, runs_of, headed, recorded, in_order, others, live, end_of, packed}
+use Rattle.store_record.specs.Runs.{run, runs_from, runs_of, headed, recorded, in_order, others, live, end_of, packed}
+use Rattle.store_record.specs.declared.Run.{Run}
 use Rattle.store_record.specs.Tokens.{joined}
 use Rattle.store_record.proofs.Headed.{headed-count, headed-runs, headed-set, headed-length, headed-more, headed-over}
 use Rattle.store_record.proofs.Order.{order-others, order-end, number-others, out, fewer, packed-length}

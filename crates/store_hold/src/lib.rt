@@ -6,6 +6,8 @@ ghost use Rattle.store_record.specs.Runs.{runs_from, runs_of, in_order, others, 
 ghost use Rattle.store_map.specs.Store.{store_of, right, stored};
 ghost use Rattle.store_hold.specs.Made.{Made};
 
+use store_record::Run;
+
 // Place for n tokens: behind the last of the first `count` runs where they fit there, else behind all, moved together.
 fn make_room(room: &mut [u64], rec: &mut [u64], count: usize, n: usize) -> usize
     requires { (length rec.old ≡ 3073) × ((count ≤ 1024) × (in_order 0 (length room.old) (runs_from rec.old 0 count) ≡ true)) }
@@ -28,6 +30,14 @@ pub fn hold(room: &mut [u64], rec: &mut [u64], block: u64, tokens: &[u64])
     let n = tokens.len();
     let at = make_room(room, rec, left, n);
     store_room::copy_run(tokens, 0, n, room, at);
-    store_passes::write_run(rec, left, block, at as u64, n as u64);
+    store_passes::write_run(
+        rec,
+        left,
+        Run {
+            number: block,
+            start: at as u64,
+            size: n as u64,
+        },
+    );
     rec[0] = (left + 1) as u64;
 }

@@ -2,21 +2,21 @@
 use Prim.Native.Nat.{ℕ, zero, suc, ◌+◌, ◌<◌, ◌≤◌}
 use mathlib.Core.Path.{◌≡◌, refl, sym, ap, ap₂, subst, ◌∙◌}
 use mathlib.Core.Bool.{Bool, true, false, cond}
-use mathlib.Core.List.{List, [], ◌∷◌, ◌++◌}
+use mathlib.Core.List.{List, []}
 use native.Mathlib.Omega.{arith}
 use borrow.Author.Tests.{eqb-true, eq-eqb, ne_eqb, leb-true, ltb-true}
 use lib.Dec.{eqb, leb, ltb}
-use lib.ListN.{length, take, drop}
+use lib.ListN.{length, take}
 use Rattle.store_record.specs.Placed.{placed}
-use Rattle.store_record.specs.Runs.{Run, runs_of, in_order, holds, others, run_under, live}
+use Rattle.store_record.specs.Runs.{runs_of, holds, others, run_under, live}
 use Rattle.store_record.specs.Tokens.{tokens_of}
 use Rattle.store_record.proofs.Placed.{placed-back}
 use Rattle.store_record.proofs.Order.{order-others}
 use Rattle.store_map.specs.Map.{Entry, Call, Reply, reply, held, lookup, without, total, refusal_on, done, given, reply_on, after}
 use Rattle.store_map.specs.Map as Map
-use Rattle.store_map.specs.Store.{Store, store_of, right, Outcome, put_refusal, stored, put_outcome, drop_refusal, dropped, drop_outcome, run_in, read_refusal, read_tokens, entries, map_of, Kept}
+use Rattle.store_map.specs.Store.{Store, right, put_refusal, stored, put_outcome, drop_refusal, dropped, drop_outcome, run_in, read_refusal, read_tokens, entries, map_of, Kept}
 use Rattle.store_map.proofs.Entries.{entries-held, entries-others, entries-lookup, entries-total, tokens-length, under-within}
-use Rattle.store_map.proofs.Stores.{Passed, passed, drop-map, drop-right, put_map, put_right, put-long}
+use Rattle.store_map.proofs.Stores.{passed, drop-map, drop-right, put_map, put_right, put-long}
 
 -- ---- refusals
 

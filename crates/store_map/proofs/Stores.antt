@@ -1,22 +1,23 @@
 -- What put and drop leave passes check 37, and stands for the map after the call. Assumes nothing.
-use Prim.Native.Nat.{ℕ, zero, suc, ◌+◌, ◌-◌, ◌*◌, ◌<◌, ◌≤◌}
+use Prim.Native.Nat.{ℕ, ◌+◌, ◌<◌, ◌≤◌}
 use mathlib.Core.Path.{◌≡◌, refl, sym, ap, ap₂, subst, ◌∙◌}
-use mathlib.Core.Bool.{Bool, true, false, cond, ◌&&◌, true≢false}
+use mathlib.Core.Bool.{Bool, true, false, cond, ◌&&◌}
 use mathlib.Core.List.{List, [], ◌∷◌, ◌++◌}
 use native.Mathlib.Omega.{arith}
-use borrow.Author.Tests.{eqb-true, eq-eqb, leb-true, le-leb, leb-false}
+use borrow.Author.Tests.{eqb-true, eq-eqb, leb-true, le-leb}
 use lib.Dec.{eqb, leb}
-use lib.ListN.{length, get_or, take, drop, length-append}
+use lib.ListN.{length, get_or, drop, length-append}
 use Rattle.laws.proofs.Tests.{and_left, and_right}
 use Rattle.store_record.specs.Placed.{placed}
-use Rattle.store_record.specs.Runs.{Run, run, runs_from, runs_of, flat, recorded, in_order, numbered, holds, valid_runs, valid_record, others, live, end_of, packed}
+use Rattle.store_record.specs.Runs.{run, runs_from, runs_of, recorded, in_order, numbered, holds, valid_runs, valid_record, others, live, end_of, packed}
+use Rattle.store_record.specs.declared.Run.{Run}
 use Rattle.store_record.specs.Tokens.{tokens_of, joined}
 use Rattle.store_record.proofs.Placed.{placed-length, placed-back}
 use Rattle.store_record.proofs.Runs.{runs-length}
 use Rattle.store_record.proofs.Headed.{headed-count, headed-runs, headed-length}
-use Rattle.store_record.proofs.Order.{order-others, order-end, order-more, order-packed, number-others, number_more, number-packed, out, packed-held, packed-length, packed-end, fewer, others-most, and_both}
+use Rattle.store_record.proofs.Order.{order-others, order-more, order-packed, number-others, number_more, number-packed, out, packed-held, packed-end, fewer, others-most}
 use Rattle.store_map.specs.Map.{Entry, entry, without}
-use Rattle.store_map.specs.Store.{Store, store_of, right, Space, space, stored, dropped, entries, map_of}
+use Rattle.store_map.specs.Store.{Store, right, Space, space, stored, dropped, entries, map_of}
 use Rattle.store_map.proofs.Entries.{entries-others, entries-more, entries-past, entries-packed, joined_length}
 
 -- ---- a record that passes, and a record that was written

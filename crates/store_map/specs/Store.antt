@@ -1,7 +1,8 @@
 -- What the calls on a store answer, and what room, record and the reader's buffer hold afterwards (ticket 14).
 use Rattle.std.specs.Prelude.{ℕ, suc, ◌+◌, ◌≡◌, Bool, true, false, cond, List, [], ◌∷◌, ◌++◌, eqb, leb, ltb, length}
 use Rattle.store_record.specs.Placed.{placed}
-use Rattle.store_record.specs.Runs.{Run, run, runs_of, recorded, valid_record, holds, others, run_under, live, end_of, packed}
+use Rattle.store_record.specs.Runs.{run, runs_of, recorded, valid_record, holds, others, run_under, live, end_of, packed}
+use Rattle.store_record.specs.declared.Run.{Run}
 use Rattle.store_record.specs.Tokens.{tokens_of, joined}
 use Rattle.store_map.specs.Map.{Entry, entry, Call, Reply, reply, reply_on, after}
 

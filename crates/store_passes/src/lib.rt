@@ -6,13 +6,15 @@ ghost use Rattle.store_record.specs.Placed.{placed};
 ghost use Rattle.store_record.specs.Runs.{runs_from, others, live, end_of};
 ghost use Rattle.store_passes.specs.Found.{Found, Removed};
 
+use store_record::Run;
+
 // The index of the run under number `block` among the first `count`.
 pub fn find(rec: &[u64], count: usize, block: u64) -> Option<usize>
     requires { (length rec.now ≡ 3073) × (count ≤ 1024) }
     ensures { Found block rec.now count result }
 {
     for i in 0..count {
-        if rec[3 * i + 1] == block {
+        if store_record::run_at(rec, i).number == block {
             return Some(i);
         }
     }
@@ -27,8 +29,9 @@ pub fn live_but(rec: &[u64], count: usize, block: u64) -> usize
 {
     let mut sum = 0;
     for i in 0..count {
-        if rec[3 * i + 1] != block {
-            sum += rec[3 * i + 3] as usize;
+        let run = store_record::run_at(rec, i);
+        if run.number != block {
+            sum += run.size as usize;
         }
     }
     sum
@@ -43,30 +46,30 @@ pub fn end_of(rec: &[u64], count: usize) -> usize
     if count == 0 {
         return 0;
     }
-    let last = count - 1;
-    (rec[3 * last + 2] + rec[3 * last + 3]) as usize
+    let last = store_record::run_at(rec, count - 1);
+    (last.start + last.size) as usize
 }
 
 // Writes run i.
-pub fn write_run(rec: &mut [u64], i: usize, number: u64, start: u64, size: u64)
+pub fn write_run(rec: &mut [u64], i: usize, run: Run)
     requires { 3 * i + 3 < length rec.old }
-    ensures { rec.new ≡ placed (3 * i + 1) (number ∷ start ∷ size ∷ []) rec.old }
+    ensures { rec.new ≡ placed (3 * i + 1) (run.number ∷ run.start ∷ run.size ∷ []) rec.old }
 {
-    rec[3 * i + 1] = number;
-    rec[3 * i + 2] = start;
-    rec[3 * i + 3] = size;
+    rec[3 * i + 1] = run.number;
+    rec[3 * i + 2] = run.start;
+    rec[3 * i + 3] = run.size;
 }
 
 // Writes a run behind the first `kept`, unless it stands under number `block`; how many are kept then.
-fn keep_run(rec: &mut [u64], kept: usize, number: u64, start: u64, size: u64, block: u64) -> usize
+fn keep_run(rec: &mut [u64], kept: usize, run: Run, block: u64) -> usize
     requires { (3 * kept + 3 < length rec.old) × (kept < 1024) }
-    ensures value { result ≡ cond (eqb block number) kept (kept + 1) }
-    ensures rec_after { rec.new ≡ cond (eqb block number) rec.old (placed (3 * kept + 1) (number ∷ start ∷ size ∷ []) rec.old) }
+    ensures value { result ≡ cond (eqb block run.number) kept (kept + 1) }
+    ensures rec_after { rec.new ≡ cond (eqb block run.number) rec.old (placed (3 * kept + 1) (run.number ∷ run.start ∷ run.size ∷ []) rec.old) }
 {
-    if block == number {
+    if block == run.number {
         return kept;
     }
-    write_run(rec, kept, number, start, size);
+    write_run(rec, kept, run);
     kept + 1
 }
 
@@ -77,10 +80,8 @@ pub fn remove(rec: &mut [u64], count: usize, block: u64) -> usize
 {
     let mut kept = 0;
     for i in 0..count {
-        let number = rec[3 * i + 1];
-        let start = rec[3 * i + 2];
-        let size = rec[3 * i + 3];
-        kept = keep_run(rec, kept, number, start, size, block);
+        let run = store_record::run_at(rec, i);
+        kept = keep_run(rec, kept, run, block);
     }
     kept
 }

@@ -6,7 +6,8 @@ use native.Mathlib.Omega.{arith}
 use native.Mathlib.Nat.{not-suc-le-zero}
 use lib.ListN.{length, get_or, set, drop}
 use Rattle.store_record.specs.Placed.{placed}
-use Rattle.store_record.specs.Runs.{Run, run, runs_from, flat, headed}
+use Rattle.store_record.specs.Runs.{run, runs_from, flat, headed}
+use Rattle.store_record.specs.declared.Run.{Run}
 use Rattle.store_record.proofs.Placed.{placed-length, placed_past, placed-placed, placed-over}
 use Rattle.store_record.proofs.Runs.{flat-length, flat_append, flat-one, read_back}
 

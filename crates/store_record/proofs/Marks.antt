@@ -9,7 +9,8 @@ use lib.Dec.{eqb, leb, ltb}
 use lib.ListN.{length, get_or, set, length-set, replicate, length-replicate}
 use lib.Seq.{get_or-set_same, get_or-set_other}
 use Rattle.laws.proofs.Tests.{and_left, and_right}
-use Rattle.store_record.specs.Runs.{Run, run_at, runs_from, in_order, holds, numbered, valid_runs}
+use Rattle.store_record.specs.Runs.{run_at, runs_from, in_order, holds, numbered, valid_runs}
+use Rattle.store_record.specs.declared.Run.{Run}
 use Rattle.store_record.specs.Marks.{fits, passes}
 use Rattle.store_record.proofs.Runs.{runs-next, runs_none}
 use Rattle.store_record.proofs.Order.{and_both, same_test, either, order-head, number-head}

@@ -9,7 +9,8 @@ use borrow.Author.Tests.{ltb-true, lt-ltb, eqb-true, eqb-false, ne_eqb, leb-true
 use lib.Dec.{eqb, leb, ltb}
 use lib.ListN.{length}
 use Rattle.laws.proofs.Tests.{and_left, and_right}
-use Rattle.store_record.specs.Runs.{Run, run, in_order, holds, numbered, others, live, end_of, packed}
+use Rattle.store_record.specs.Runs.{run, in_order, holds, numbered, others, live, end_of, packed}
+use Rattle.store_record.specs.declared.Run.{Run}
 
 pub and_both : (a b : Bool) → a ≡ true → b ≡ true → a && b ≡ true
 and_both a b p q = rw (p, q)

@@ -6,7 +6,8 @@ use native.Mathlib.Omega.{arith}
 use native.Mathlib.Nat.{not-suc-le-zero}
 use native.Mathlib.Numerals.{add-one}
 use lib.ListN.{length, get_or}
-use Rattle.store_record.specs.Runs.{Run, run, run_at, runs_from, flat}
+use Rattle.store_record.specs.Runs.{run, run_at, runs_from, flat}
+use Rattle.store_record.specs.declared.Run.{Run}
 
 pub runs_none : (r : List ℕ) (i n : ℕ) → n ≤ i → runs_from r i (n - i) ≡ []
 unfolding runs_from

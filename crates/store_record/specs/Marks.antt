@@ -1,6 +1,6 @@
 -- How check 37 is made: in one pass, with a mark at each number met.
 use Rattle.std.specs.Prelude.{ℕ, ◌+◌, Bool, true, ◌&&◌, List, [], ◌∷◌, eqb, leb, ltb, get_or, set}
-use Rattle.store_record.specs.Runs.{Run}
+use Rattle.store_record.specs.declared.Run.{Run}
 
 -- a run that starts at `end` or later, ends within the room, and has a number below 1,024
 unfoldable pub fits : ℕ → ℕ → Run → Bool

@@ -1,12 +1,7 @@
 -- A store's record (ticket 14): the number of runs, then number, start and length of each, in the order in which the runs stand in room.
 use Rattle.std.specs.Prelude.{ℕ, zero, suc, ◌+◌, ◌*◌, Bool, true, false, not, cond, ◌&&◌, ◌||◌, List, [], ◌∷◌, eqb, leb, ltb, length, get_or}
 use Rattle.store_record.specs.Placed.{placed}
-
--- a run: its block's number, where it starts in room, how many tokens it has
-pub record Run : Type 0 where
-  pub number : ℕ
-  pub start : ℕ
-  pub size : ℕ
+use Rattle.store_record.specs.declared.Run.{Run}
 
 abbrev pub run : ℕ → ℕ → ℕ → Run
 run k start size = record { number = k; start = start; size = size }

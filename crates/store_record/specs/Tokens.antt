@@ -1,6 +1,6 @@
 -- The tokens of a store's runs.
 use Rattle.std.specs.Prelude.{ℕ, List, [], ◌∷◌, ◌++◌, take, drop}
-use Rattle.store_record.specs.Runs.{Run}
+use Rattle.store_record.specs.declared.Run.{Run}
 
 -- the tokens of a run
 unfoldable pub tokens_of : List ℕ → Run → List ℕ

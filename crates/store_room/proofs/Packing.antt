@@ -4,7 +4,6 @@ use mathlib.Core.Path.{◌≡◌, refl, sym, ap, ap₂, ◌∙◌}
 use mathlib.Core.Bool.{true}
 use mathlib.Core.List.{List, [], ◌∷◌, ◌++◌, append-nil, append_assoc}
 use native.Mathlib.Omega.{arith}
-use native.Mathlib.Nat.{le_antisymm}
 use lib.ListN.{length, get_or, take, drop, length-append, length-drop}
 use lib.Seq.{length-take-le}
 use lib.Seq.{paste}
@@ -12,13 +11,13 @@ use borrow.Rule.Slice.PartMut.{put_mid}
 use Rattle.std.proofs.lemmas.List.Edits.{paste_all}
 use Rattle.std.proofs.lemmas.Slice.{put_mid-paste}
 use Rattle.store_record.specs.Placed.{placed}
-use Rattle.store_record.specs.Runs.{Run, run, run_at, runs_from, headed, in_order, live, packed}
+use Rattle.store_record.specs.Runs.{run, run_at, runs_from, headed, in_order, live, packed}
+use Rattle.store_record.specs.declared.Run.{Run}
 use Rattle.store_record.specs.Tokens.{tokens_of, joined}
 use Rattle.store_record.proofs.Placed.{placed-none, placed-rest, placed-length, placed-placed}
 use Rattle.store_record.proofs.Runs.{runs-next, runs-more, runs-length}
 use Rattle.store_record.proofs.Headed.{headed-none, headed-length, headed-past, headed-more}
 use Rattle.store_record.proofs.Order.{order-head, order-lower, packed-length}
-use Rattle.store_room.specs.Compacted.{Compacted}
 
 -- a run copied whole
 pub run-pasted : (at start n : ℕ) (from to : List ℕ) → start + n ≤ length from → paste to at (drop start from) (start + n - start) ≡ placed at (take n (drop start from)) to
@@ -170,8 +169,3 @@ module _ (room₀ r : List ℕ) (n i : ℕ) (room rec : List ℕ) (top : ℕ) (s
               ∙ ap (λ (l : List Run). headed (get_or r 0 0) l r) (sym packed');
           later = order-lower (start + sz) (top + get_or rec (3 * i + 3) 0) (length room₀) (runs_from r (i + 1) (n - (i + 1))) (omega arith) head.1.1;
         }
-
-pub pack-end : (room₀ r : List ℕ) (n i : ℕ) (room rec : List ℕ) (top : ℕ) → Packing room₀ r n i room rec top → n ≤ i → Compacted room₀ r n room rec top
-pack-end room₀ r n i room rec top s h =
-    let e : i ≡ n = le_antisymm s.within h in
-    record { end = rw e at s.end; tokens = rw e at s.tokens; runs = rw e at s.runs }

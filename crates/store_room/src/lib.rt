@@ -6,6 +6,8 @@ ghost use Rattle.store_record.specs.Placed.{placed};
 ghost use Rattle.store_record.specs.Runs.{runs_from, in_order};
 ghost use Rattle.store_room.specs.Compacted.{Compacted};
 
+use store_record::Run;
+
 // Copies n tokens from `start` on to `at` on.
 pub fn copy_run(from: &[u64], start: usize, n: usize, to: &mut [u64], at: usize)
     requires { (start + n ≤ length from.now) × (at + n ≤ length to.old) }
@@ -30,12 +32,18 @@ pub fn compact(room: &mut [u64], rec: &mut [u64], count: usize) -> usize
 {
     let mut top = 0;
     for i in 0..count {
-        let number = rec[3 * i + 1];
-        let start = rec[3 * i + 2] as usize;
-        let size = rec[3 * i + 3];
-        move_down(room, start, size as usize, top);
-        store_passes::write_run(rec, i, number, top as u64, size);
-        top += size as usize;
+        let run = store_record::run_at(rec, i);
+        let size = run.size as usize;
+        move_down(room, run.start as usize, size, top);
+        store_passes::write_run(
+            rec,
+            i,
+            Run {
+                start: top as u64,
+                ..run
+            },
+        );
+        top += size;
     }
     top
 }

@@ -6,44 +6,41 @@
 // above 131,071, then by 27 or 28. A refused call leaves the tally as it was.
 #![tactic(auto)]
 
-ghost use Rattle.std.specs.Prelude.{◌≡◌};
+ghost use Rattle.std.specs.Prelude.{◌≡◌, length};
 ghost use Rattle.refusals.specs.Numbers.{code_of};
+ghost use Rattle.coding.specs.Checked.{coding_in};
 ghost use Rattle.coding.specs.Coding.{coding_of};
+ghost use Rattle.laws.specs.Refusals.{first_refused};
+ghost use Rattle.tallying.specs.Checked.{tokens_in};
 ghost use Rattle.tallying.specs.Uses.{tokens_of};
-ghost use Rattle.tallying.specs.Tally.{tally_of, outcome_of, added, removed};
+ghost use Rattle.tallying.specs.Tally.{tally_of, outcome_of, shared_checks, added, removed};
 ghost use Rattle.tallying.specs.Changes.{outcome};
 
+use coding::code::Code;
 use refusals::Refusal;
 use tallying::Change;
+use tallying::tokens::Tokens;
 
 // Adds tokens, or takes them out: all of them or none.
 fn change_tally(
     change: Change,
-    clusters: u32,
-    map: &[u8],
-    configs: &[u8],
-    contexts: &[u32],
-    values: &[u32],
+    code: &Code,
+    tokens: &Tokens,
     counts: &mut [u32],
     extra: &mut u64,
 ) -> Result<(), Refusal>
+    requires { first_refused (shared_checks (coding_in code.now) (tokens_in tokens.now) (length counts.old)) 0 ≡ 0 }
     ensures { outcome_of (code_of result) (tally_of counts.new extra.new)
-        ≡ outcome change (coding_of clusters map.now configs.now) (tokens_of contexts.now values.now) (tally_of counts.old extra.old) }
+        ≡ outcome change (coding_in code.now) (tokens_in tokens.now) (tally_of counts.old extra.old) }
 {
-    let code = tallying::check_tokens(clusters, map, configs, contexts, values, counts.len())?;
     let mut total = *extra;
-    let counted = tallying::count_tokens(change, &code, contexts, values, counts, &mut total);
-    if let Err(done) = counted {
+    if let Err(done) = tallying::count_tokens(change, code, tokens, counts, &mut total) {
         // Those that were counted are counted back. Each has room for that.
-        let (contexts, values) = (&contexts[..done], &values[..done]);
-        let _ = tallying::count_tokens(
-            change.opposite(),
-            &code,
-            contexts,
-            values,
-            counts,
-            &mut total,
-        );
+        let counted = Tokens {
+            contexts: &tokens.contexts[..done],
+            values: &tokens.values[..done],
+        };
+        let _ = tallying::count_tokens(change.opposite(), code, &counted, counts, &mut total);
         return Err(match change {
             Change::Add => Refusal::TallyFull,
             Change::Remove => Refusal::TallyEmpty,
@@ -66,16 +63,15 @@ pub fn tally_add(
     ensures { outcome_of (code_of result) (tally_of counts.new extra.new)
         ≡ added (coding_of clusters map.now configs.now) (tokens_of contexts.now values.now) (tally_of counts.old extra.old) }
 {
-    change_tally(
-        Change::Add,
+    let (code, tokens) = tallying::check_tokens(
         clusters,
         map,
         configs,
         contexts,
         values,
-        counts,
-        extra,
-    )
+        counts.len(),
+    )?;
+    change_tally(Change::Add, &code, &tokens, counts, extra)
 }
 
 // Takes tokens out. 28: a count or the total would fall below 0. It does not matter which call added them.
@@ -91,14 +87,13 @@ pub fn tally_remove(
     ensures { outcome_of (code_of result) (tally_of counts.new extra.new)
         ≡ removed (coding_of clusters map.now configs.now) (tokens_of contexts.now values.now) (tally_of counts.old extra.old) }
 {
-    change_tally(
-        Change::Remove,
+    let (code, tokens) = tallying::check_tokens(
         clusters,
         map,
         configs,
         contexts,
         values,
-        counts,
-        extra,
-    )
+        counts.len(),
+    )?;
+    change_tally(Change::Remove, &code, &tokens, counts, extra)
 }

@@ -3,8 +3,8 @@ use mathlib.Core.Path.{◌≡◌, refl, sym, ap, ap₂, ◌∙◌}
 use mathlib.Core.List.{List, [], ◌∷◌}
 use Prim.Native.Nat.{ℕ, ◌+◌, ◌-◌, ◌<◌}
 use native.Mathlib.Omega.{arith}
-use lib.ListN.{length, get_or, replicate, length-replicate, get_or-replicate}
-use Rattle.tallying.specs.Tally.{Tally, tally_of, listed}
+use lib.ListN.{length, get_or, length-replicate, get_or-replicate}
+use Rattle.tallying.specs.Tally.{Tally, tally_of}
 use Rattle.tallying.proofs.Lists.{listed_is}
 use Rattle.tally_runs.specs.Runs.{Call, done, after, answered, zeros, summed, brought_by, taken_by, extra_brought, extra_taken, afresh, AsSums}
 use Rattle.tally_runs.proofs.Calls.{balanced}

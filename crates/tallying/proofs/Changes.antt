@@ -5,7 +5,8 @@ use Rattle.tallying.specs.declared.Change.{Change}
 use Rattle.tallying.specs.declared.Change.TheVariants.{Add, Remove}
 use Rattle.tallying.specs.Uses.{Tokens, place_at, extra_at}
 use Rattle.tallying.specs.Tally.{tally_of, many}
-use Rattle.tallying.specs.Counting.{Countable, to_add, rest_to_add, to_remove}
+use Rattle.tallying.specs.Counting.{to_add, rest_to_add, to_remove}
+use Rattle.tallying.proofs.Checks.{Countable}
 use Rattle.tallying.specs.Changes.{op_of, room_of, rest_of, Goes, SomeCounted}
 use Rattle.tallying.proofs.Uses.{extra-room}
 use Rattle.tallying.proofs.Steps.{Going, going-none, going-at, in-places, going_next, add-full, add-over, add-fits, remove-empty, remove-under, remove-fits}

@@ -2,41 +2,35 @@
 use mathlib.Core.Path.{◌≡◌, refl, sym, ap, ◌∙◌}
 use mathlib.Core.Bool.{Bool, true, false, ◌&&◌, cond}
 use mathlib.Core.List.{List, [], ◌∷◌}
-use Prim.Native.Nat.{ℕ, zero, suc, ◌+◌, ◌*◌, ◌<◌}
+use Prim.Native.Nat.{ℕ, zero, suc, ◌+◌, ◌*◌, ◌<◌, ◌≤◌, max}
 use native.Mathlib.Omega.{arith}
-use borrow.Author.Tests.{eq-eqb, ne_eqb, eqb-true, leb-true}
+use native.Mathlib.Numerals.{add-one}
+use borrow.Author.Tests.{eq-eqb, ne_eqb, eqb-true, leb-true, leb-false, le-leb, lt-leb}
 use lib.Dec.{eqb, leb}
 use lib.ListN.{length, get_or}
-use Rattle.coding.specs.Coding.{Coding, coding_checks}
-use Rattle.coding.proofs.Passed.{codes, others-right}
+use Rattle.coding.specs.Coding.{Coding, Codes, coding_of, coding_checks}
+use Rattle.coding.specs.declared.code.Code.{Code}
+use Rattle.coding.proofs.Passed.{others-right}
 use Rattle.laws.specs.Refusals.{first_refused}
 use Rattle.laws.proofs.Refused.{in-turn, refused-first, all_pass, none-refused, passes-first}
 use Rattle.laws.proofs.Tests.{and_left, and_right}
 use Rattle.prices.specs.Checks.{each}
-use Rattle.prices.proofs.Each.{each_below, each-run, each_same}
-use Rattle.std.specs.List.{list_all}
+use Rattle.prices.proofs.Each.{each_below}
 use Rattle.tallying.specs.Uses.{Tokens}
 use Rattle.tallying.specs.Tally.{Tally, many, are_tokens, shared_checks, tally_checks}
-use Rattle.tallying.specs.Counting.{Countable}
+use Rattle.tallying.specs.Checked.{tokens_in}
+use Rattle.tallying.specs.declared.tokens.Tokens as Checked
 
 -- ---- 17
--- a test of a whole list, by number
-each_none : (p : ℕ → Bool) → true ≡ each 0 p
+-- the largest of a list decides
+pub each-max : (p : ℕ → Bool) (n top x most : ℕ) → each n p ≡ leb top most → p n ≡ leb x most → each (n + 1) p ≡ leb (max top x) most
 unfolding each
-each_none p = refl
-
-each_one : (p : ℕ → Bool) → each 1 p ≡ p 0
-unfolding each
-each_one p = refl
-
-all-each : (test : ℕ → Bool) (xs : List ℕ) → list_all test xs ≡ each (length xs) (λ i. test (get_or xs i 0))
-all-each test [] = each_none (λ i. test (get_or [] i 0))
-all-each test (x ∷ xs) =
-    let more : suc (length xs) ≡ 1 + length xs = omega arith in
-    rw (more, each-run (λ i. test (get_or (x ∷ xs) i 0)) 1 (length xs), each_one (λ i. test (get_or (x ∷ xs) i 0)))
-    (ap (λ b. test x && b)
-    (all-each test xs
-    ∙ each_same (λ i. test (get_or xs i 0)) (λ i. test (get_or (x ∷ xs) (1 + i) 0)) (length xs) (λ i h. let next : 1 + i ≡ suc i = omega arith in rw next refl)))
+each-max p n top x most e d = rw (add-one n, e, d) (go (leb top most) (leb x most) refl refl)
+  where
+    go : (a b : Bool) → leb top most ≡ a → leb x most ≡ b → a && b ≡ leb (max top x) most
+    go true true f g = sym (le-leb (max top x) most (omega (arith, leb-true top most f, leb-true x most g)))
+    go true false f g = sym (lt-leb (max top x) most (omega (arith, leb-true top most f, leb-false x most g)))
+    go false b f g = sym (lt-leb (max top x) most (omega (arith, leb-false top most f)))
 
 swapped : (a b c d : Bool) → ((a && b) && (c && d)) ≡ ((a && c) && (b && d))
 swapped true true c d = refl
@@ -57,11 +51,20 @@ module _ (t : Tokens) where
   unfolding are_tokens
   other-lengths n = rw (ne_eqb (length t.values) (many t) n)
 
-  pub both-lists : length t.values ≡ many t → (list_all (λ context. leb context 14849) t.contexts && list_all (λ value. leb value 131071) t.values) ≡ are_tokens t
+  pub both-lists : length t.values ≡ many t → (each (length t.contexts) (λ i. leb (get_or t.contexts i 0) 14849) && each (length t.values) (λ i. leb (get_or t.values i 0) 131071)) ≡ are_tokens t
   unfolding are_tokens
-  both-lists e =
-      rw (eq-eqb (length t.values) (many t) e, all-each (λ context. leb context 14849) t.contexts, all-each (λ value. leb value 131071) t.values, e)
-      (each_both (λ i. leb (get_or t.contexts i 0) 14849) (λ i. leb (get_or t.values i 0) 131071) (many t))
+  both-lists e = rw (eq-eqb (length t.values) (many t) e, e) (each_both (λ i. leb (get_or t.contexts i 0) 14849) (λ i. leb (get_or t.values i 0) 131071) (many t))
+
+  module _ (ok : are_tokens t ≡ true) where
+    pub same-lengths : length t.values ≡ many t
+    unfolding are_tokens
+    same-lengths = eqb-true (length t.values) (many t) (and_left (eqb (length t.values) (many t)) (each (many t) is_token) ok)
+
+    pub token-at : (i : ℕ) → i < many t → (get_or t.contexts i 0 ≤ 14849) × (get_or t.values i 0 ≤ 131071)
+    unfolding are_tokens
+    token-at i h =
+        let here = each_below is_token (many t) (and_right (eqb (length t.values) (many t)) (each (many t) is_token) ok) i h in
+        (leb-true _ _ (and_left (leb (get_or t.contexts i 0) 14849) (leb (get_or t.values i 0) 131071) here), leb-true _ _ (and_right (leb (get_or t.contexts i 0) 14849) (leb (get_or t.values i 0) 131071) here))
 
 -- ---- 1 to 4, then 17
 module _ (k : Coding) (t : Tokens) (places : ℕ) where
@@ -82,20 +85,28 @@ module _ (k : Coding) (t : Tokens) (places : ℕ) where
       let code = none-refused first (first_refused ((are_tokens t, 17) ∷ []) 0) refl (sym (in-turn first ((are_tokens t, 17) ∷ []) 0) ∙ e) in
       (code, (passes-first (are_tokens t) 17 [] 0 refl (sym (all_pass first (first_refused ((are_tokens t, 17) ∷ []) 0) refl code) ∙ (sym (in-turn first ((are_tokens t, 17) ∷ []) 0) ∙ e))).0)
 
-  pub countable : first_refused (shared_checks k t places) 0 ≡ 0 → Countable k.map k.configs t places
-  unfolding are_tokens
-  countable ok =
-      let both = both-passed ok in
-      let long = and_left (eqb (length t.values) (many t)) (each (many t) (is_token t)) both.1 in
-      let each-is : (i : ℕ) → i < many t → is_token t i ≡ true = λ i h. each_below (is_token t) (many t) (and_right (eqb (length t.values) (many t)) (each (many t) (is_token t)) both.1) i h in
-      record {
-        clusters = k.clusters;
-        codes = codes k (eqb places (128 * k.clusters)) both.0;
-        places_are = eqb-true places (128 * k.clusters) (others-right k (eqb places (128 * k.clusters)) both.0);
-        long = eqb-true (length t.values) (many t) long;
-        context = λ i h. leb-true (get_or t.contexts i 0) 14849 (and_left (leb (get_or t.contexts i 0) 14849) (leb (get_or t.values i 0) 131071) (each-is i h));
-        value = λ i h. leb-true (get_or t.values i 0) 131071 (and_right (leb (get_or t.contexts i 0) 14849) (leb (get_or t.values i 0) 131071) (each-is i h));
-      }
+  pub places-are : first_refused (shared_checks k t places) 0 ≡ 0 → places ≡ 128 * k.clusters
+  places-are ok = eqb-true places (128 * k.clusters) (others-right k (eqb places (128 * k.clusters)) (both-passed ok).0)
+
+-- a code with a count for each of its places, and tokens of it
+pub record Countable (map configs : List ℕ) (t : Tokens) (places : ℕ) : Type 0 where
+  pub clusters : ℕ
+  pub codes : Codes (coding_of clusters map configs)
+  pub places_are : places ≡ 128 * clusters
+  pub long : length t.values ≡ many t
+  pub context : (i : ℕ) → i < many t → get_or t.contexts i 0 ≤ 14849
+  pub value : (i : ℕ) → i < many t → get_or t.values i 0 ≤ 131071
+
+pub countable : (c : Code) (t : Checked.Tokens) {places : ℕ} → places ≡ 128 * c.clusters → Countable c.map.now c.configs.now (tokens_in t) places
+countable c t e =
+    record {
+      clusters = c.clusters;
+      codes = c.codes;
+      places_are = e;
+      long = same-lengths (tokens_in t) t.passed;
+      context = λ i h. (token-at (tokens_in t) t.passed i h).0;
+      value = λ i h. (token-at (tokens_in t) t.passed i h).1;
+    }
 
 -- ---- the call's own check comes last
 module _ (k : Coding) (t : Tokens) (y : Tally) (own : Bool) (n : ℕ) where

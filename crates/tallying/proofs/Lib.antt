@@ -1,10 +1,10 @@
 pub mod Lists
+pub mod Checks
 pub mod Uses
 mod Steps
 mod Ends
 pub mod Changes
 pub mod Entries
 pub mod Undone
-pub mod Checks
 pub mod Taken
 pub mod Settled

@@ -88,10 +88,6 @@ own Add = 27
 own Remove = 28
 
 module _ (k : Coding) (t : Tokens) (counts : List ℕ) (extra : ℕ) where
-  pub refused : (change : Change) {r : ℕ} → r ≡ first_refused (shared_checks k t (length counts)) 0 → (r ≡ 0 → ⊥) → outcome_of r (tally_of counts extra) ≡ outcome change k t (tally_of counts extra)
-  refused Add e z = add-refused k t (tally_of counts extra) e z
-  refused Remove e z = remove-refused k t (tally_of counts extra) e z
-
   module _ (ok : first_refused (shared_checks k t (length counts)) 0 ≡ 0) (small : (s : ℕ) → get_or counts s 0 ≤ 4294967295) (total : extra ≤ 18446744073709551615) where
     pub stopped : (change : Change) (done : ℕ) (z : Tally) → SomeCounted change k.map k.configs t (many t) (tally_of counts extra) done z → done < many t
         → outcome_of (own change) (tally_of counts extra) ≡ outcome change k t (tally_of counts extra)

@@ -1,12 +1,14 @@
 -- The first tokens of a list, as a list of their own; and that counting them the other way brings a tally back. Assumes nothing.
-use Rattle.std.proofs.Common.{◌≡◌, ℕ, zero, suc, ◌+◌, ◌-◌, ◌≤◌, ◌<◌, List, Bool, true, cond, eqb, leb, length, get_or, take, refl, sym, ap, ap₂, subst, ◌∙◌, ◌&&◌, arith, length-take, zero-le}
+use Rattle.std.proofs.Common.{◌≡◌, ℕ, zero, suc, ◌+◌, ◌-◌, ◌≤◌, ◌<◌, List, true, cond, eqb, length, get_or, take, refl, sym, ap, ap₂, subst, ◌∙◌, arith, length-take}
 use Rattle.std.proofs.lemmas.List.{get_or-take}
-use native.Mathlib.Nat.{not-suc-le-zero}
 use Rattle.tallying.specs.declared.Change.{Change}
 use Rattle.tallying.specs.declared.Change.TheVariants.{Add, Remove}
 use Rattle.tallying.specs.Uses.{Tokens, tokens_of, cluster_at, place_at, extra_at, used_at, extra_used}
-use Rattle.tallying.specs.Tally.{Tally, tally_of, listed, many, plus, minus}
-use Rattle.tallying.specs.Counting.{Countable, has_room, SomeAdded, SomeRemoved}
+use Rattle.tallying.specs.Tally.{Tally, tally_of, listed, many, are_tokens, plus, minus}
+use Rattle.tallying.specs.Counting.{has_room, SomeAdded, SomeRemoved}
+use Rattle.prices.proofs.Each.{each_all}
+use borrow.Author.Tests.{eq-eqb, le-leb}
+use Rattle.tallying.proofs.Checks.{Countable, is_token, same-lengths, token-at}
 use Rattle.tallying.specs.Changes.{opposite, SomeCounted}
 use Rattle.tallying.proofs.Lists.{listed-length, listed_at, listed_is}
 use Rattle.tallying.proofs.Undone.{taken_back, put_back}
@@ -62,6 +64,17 @@ module _ {map configs : List ℕ} {t : Tokens} {places : ℕ} (K : Countable map
         context = λ i h. rw (get_or-take n t.contexts i 0 (omega (arith, h, length-take {A = ℕ}, few))) (K.context i (omega (arith, h, length-take {A = ℕ}, few)));
         value = λ i h. rw (get_or-take n t.values i 0 (omega (arith, h, length-take {A = ℕ}, few))) (K.value i (omega (arith, h, length-take {A = ℕ}, few)));
       }
+
+pub first-tokens : (t : Tokens) (n : ℕ) → n ≤ many t → are_tokens t ≡ true → are_tokens (first t n) ≡ true
+unfolding are_tokens
+first-tokens t n few ok =
+    let long = same-lengths t ok in
+    let each-is : (i : ℕ) → i < many (first t n) → is_token (first t n) i ≡ true = λ i h.
+    let here = token-at t ok i (omega (arith, h, length-take {A = ℕ}, few)) in
+    let below : i < n = omega (arith, h, length-take {A = ℕ}, few) in
+    rw (get_or-take n t.contexts i 0 below, get_or-take n t.values i 0 below, le-leb _ _ here.0, le-leb _ _ here.1)
+    in
+    rw (eq-eqb (length (first t n).values) (many (first t n)) (omega (arith, length-take {A = ℕ}, long))) (each_all (is_token (first t n)) (many (first t n)) each-is)
 
 -- the tokens before one that has no room, counted back
 pub restored : (change : Change) (map configs : List ℕ) (t : Tokens) (counts : List ℕ) (extra : ℕ) (done last : ℕ) (y z : Tally) → Countable map configs t (length counts)

@@ -10,7 +10,8 @@ use lib.Dec.{ltb}
 use lib.ListN.{length, get_or}
 use Rattle.tallying.specs.Uses.{Tokens, place_at, used_at, extra_used}
 use Rattle.tallying.specs.Tally.{Tally, tally_of, plus, minus, many}
-use Rattle.tallying.specs.Counting.{Countable, has_room, to_add, rest_to_add, to_remove, SomeAdded, SomeRemoved}
+use Rattle.tallying.specs.Counting.{has_room, to_add, rest_to_add, to_remove, SomeAdded, SomeRemoved}
+use Rattle.tallying.proofs.Checks.{Countable}
 use Rattle.tallying.proofs.Entries.{plus-sized, minus-sized, plus-at, minus-at}
 use Rattle.tallying.proofs.Lists.{listed_is}
 use Rattle.tallying.proofs.Steps.{in-places}

@@ -1,18 +1,8 @@
 -- What the loops that count go by, and what they leave. A loop stops before the first token that has no room.
-use Rattle.std.specs.Prelude.{ℕ, suc, ◌-◌, ◌*◌, ◌≤◌, ◌<◌, ◌≡◌, Bool, true, false, ◌&&◌, List, leb, length, get_or}
-use Rattle.coding.specs.Coding.{Codes, coding_of}
+use Rattle.std.specs.Prelude.{ℕ, suc, ◌-◌, ◌≤◌, ◌<◌, ◌≡◌, Bool, true, false, ◌&&◌, List, leb, get_or}
 use Rattle.prices.specs.Checks.{each}
 use Rattle.tallying.specs.Uses.{Tokens, place_at, used_at, extra_used}
-use Rattle.tallying.specs.Tally.{Tally, many, plus, minus}
-
--- a code with a count for each of its places, and tokens of it
-pub record Countable (map configs : List ℕ) (t : Tokens) (places : ℕ) : Type 0 where
-  pub clusters : ℕ
-  pub codes : Codes (coding_of clusters map configs)
-  pub places_are : places ≡ 128 * clusters
-  pub long : length t.values ≡ many t
-  pub context : (i : ℕ) → i < many t → get_or t.contexts i 0 ≤ 14849
-  pub value : (i : ℕ) → i < many t → get_or t.values i 0 ≤ 131071
+use Rattle.tallying.specs.Tally.{Tally, plus, minus}
 
 -- There is room for `room s` tokens at place s, and for `rest` extra bits. Token i has room beside the tokens before it ..
 abbrev pub has_room : List ℕ → List ℕ → Tokens → (ℕ → ℕ) → ℕ → ℕ → Bool

@@ -2,18 +2,20 @@
 // and taken out when the block is searched again.
 #![tactic(auto)]
 
-ghost use Rattle.std.specs.Prelude.{◌≡◌, ◌+◌, ◌*◌, ◌<◌, ◌≤◌, min, length, get_or, IfErr};
-ghost use Rattle.std.specs.Option.{SomeIff};
+pub mod tokens;
+
+ghost use Rattle.std.specs.Prelude.{◌≡◌, ◌+◌, ◌*◌, ◌<◌, ◌≤◌, leb, min, length, get_or, IfErr, SomeIff};
 ghost use Rattle.coding.specs.Coding.{coding_of};
 ghost use Rattle.prices.specs.Book.{cluster_symbol, cluster_extra};
+ghost use Rattle.prices.specs.Checks.{each};
 ghost use Rattle.tallying.specs.Uses.{tokens_of};
-ghost use Rattle.tallying.specs.Tally.{tally_of, are_tokens};
-ghost use Rattle.tallying.specs.Checked.{IsChecked};
-ghost use Rattle.tallying.specs.Counting.{Countable};
+ghost use Rattle.tallying.specs.Tally.{tally_of, many, are_tokens};
+ghost use Rattle.tallying.specs.Checked.{tokens_in, IsChecked};
 ghost use Rattle.tallying.specs.Changes.{opposite, op_of, Goes, counted_of, SomeCounted};
 
 use coding::code::Code;
 use refusals::Refusal;
+use tokens::Tokens;
 
 // Where a token is counted, and its extra bits.
 #[derive(Clone, Copy)]
@@ -78,18 +80,17 @@ impl Change {
 pub fn count_tokens(
     change: Change,
     code: &Code,
-    contexts: &[u32],
-    values: &[u32],
+    tokens: &Tokens,
     counts: &mut [u32],
     extra: &mut u64,
 ) -> Result<(), usize>
-    requires { Countable code.now.map.now code.now.configs.now (tokens_of contexts.now values.now) (length counts.old) }
-    ensures counted { SomeCounted change code.now.map.now code.now.configs.now (tokens_of contexts.now values.now) (length contexts.now)
-        (tally_of counts.old extra.old) (counted_of result (length contexts.now)) (tally_of counts.new extra.new) }
-    ensures stopped_early { IfErr result (λ done. done < length contexts.now) }
+    requires { length counts.old ≡ 128 * code.now.clusters }
+    ensures counted { let t = tokens_in tokens.now in
+        SomeCounted change code.now.map.now code.now.configs.now t (many t) (tally_of counts.old extra.old) (counted_of result (many t)) (tally_of counts.new extra.new) }
+    ensures stopped_early { IfErr result (λ done. done < length tokens.now.contexts.now) }
 {
-    for (i, &context) in contexts.iter().enumerate() {
-        let token = use_of(code, context, values[i]);
+    for (i, &context) in tokens.contexts.iter().enumerate() {
+        let token = use_of(code, context, tokens.values[i]);
         let count = change.count(counts[token.place]).ok_or(i)?;
         *extra = change.total(*extra, token.extra).ok_or(i)?;
         counts[token.place] = count;
@@ -97,29 +98,38 @@ pub fn count_tokens(
     Ok(())
 }
 
+// Whether no number of a list is above `most`. (A maximum needs no early exit, so the loop is vectorised.)
+fn none_above(most: u32, list: &[u32]) -> bool
+    ensures { result ≡ each (length list.now) (λ i. leb (get_or list.now i 0) most) }
+{
+    let mut top: u32 = 0;
+    for &number in list {
+        top = top.max(number);
+    }
+    top <= most
+}
+
 // 17: two lists of one length, contexts below 14,850, values up to 131,071.
 fn are_tokens(contexts: &[u32], values: &[u32]) -> bool
     ensures { result ≡ are_tokens (tokens_of contexts.now values.now) }
 {
-    values.len() == contexts.len()
-        && contexts.iter().all(|&context| context <= 14849)
-        && values.iter().all(|&value| value <= 131071)
+    values.len() == contexts.len() && none_above(14849, contexts) && none_above(131071, values)
 }
 
-// Checks 1 to 4 and 17: the code, once it and the tokens have passed. `places`: how many counts were lent.
-pub fn check_tokens<'a>(
+// Checks 1 to 4 and 17: code and tokens, once they have passed. `places`: how many counts were lent.
+pub fn check_tokens<'a, 'b>(
     clusters: u32,
     map: &'a [u8],
     configs: &'a [u8],
-    contexts: &[u32],
-    values: &[u32],
+    contexts: &'b [u32],
+    values: &'b [u32],
     places: usize,
-) -> Result<Code<'a>, Refusal>
+) -> Result<(Code<'a>, Tokens<'b>), Refusal>
     ensures { IsChecked (coding_of clusters map.now configs.now) (tokens_of contexts.now values.now) places result }
 {
     let code = coding::checked_code(clusters, map, configs, places == 128 * clusters as usize)?;
     if !are_tokens(contexts, values) {
         return Err(Refusal::Domain);
     }
-    Ok(code)
+    Ok((code, Tokens { contexts, values }))
 }

@@ -1,5 +1,5 @@
 -- Small levels: they lie within bounds, and their tokens have symbols under any configuration. Assumes nothing.
-use Prim.Native.Nat.{ℕ, zero, suc, ◌+◌, ◌-◌, ◌*◌, ◌/◌, ◌≤◌, ◌<◌}
+use Prim.Native.Nat.{ℕ, zero, suc, ◌+◌, ◌-◌, ◌*◌, ◌≤◌, ◌<◌}
 use mathlib.Core.Path.{◌≡◌, refl, ap, ◌∙◌}
 use mathlib.Core.Bool.{Bool, true, false, cond}
 use mathlib.Core.List.{List, [], ◌∷◌}
@@ -8,9 +8,8 @@ use borrow.Author.Tests.{leb-true, le-leb, lt-ltb}
 use lib.Dec.{eqb, leb}
 use lib.IntN.{ℤ, pos, negsuc, nat_abs}
 use lib.ListN.{length, get_or}
-use Rattle.block.specs.Block.{nonzeros_among}
 use Rattle.block.specs.declared.Shape.{Shape}
-use Rattle.coding.specs.Coding.{Coded}
+use Rattle.coding.specs.Coding as Coding
 use Rattle.laws.specs.Refusals.{first_refused}
 use Rattle.least_cost.specs.Position.{nz}
 use Rattle.packing.specs.Signed.{pack_signed}
@@ -25,8 +24,8 @@ use Rattle.block_tokens.specs.Code.{Code, code_of, symbol_in}
 use Rattle.block_tokens.specs.Writing.{all_within, all_coded}
 use Rattle.block_tokens.specs.Passed.{Scanned}
 use Rattle.block_tokens.proofs.Passed.{codes-valid}
-use Rattle.token_steps.specs.Steps.{LaidOut, SplitIn}
-use Rattle.token_steps.specs.declared.Layout.{Layout}
+use Rattle.token_steps.specs.Steps.{levels_in, count_token, SplitIn}
+use Rattle.token_steps.specs.declared.coded.Coded.{Coded}
 use Rattle.token_steps.proofs.Walk.{at-start, count-coded, count-fails}
 use Rattle.token_bounds.specs.Bounds.{levels_refusal}
 
@@ -47,7 +46,7 @@ unfolding all_within
 small-within [] s = refl
 small-within (q ∷ qs) s = simp (le-leb (nat_abs q) 32768 (omega (arith, s 0 (omega arith))), small-within qs (rest-small q qs s))
 
-module _ {map configs : List ℕ} (k : Coded map configs) where
+module _ {map configs : List ℕ} (k : Coding.Coded map configs) where
   symbol-small : (t : Token) → t.value < 128 → symbol_in (code_of map configs) t < 128
   unfolding symbol_in cluster_symbol
   symbol-small t h = small-symbol _ _ _ t.value (codes-valid k.codes t.context) h
@@ -101,20 +100,21 @@ module _ (x : Code) (h : Shape) (scan : List ℕ) (levels : List ℤ) where
     none e = rw (within, e)
 
 -- where all levels are small the count alone decides
-module _ {map configs : List ℕ} (k : Coded map configs) {p : Layout} (h : Shape) (scan : List ℕ) (levels : List ℤ) (laid : LaidOut h p) (scanned : Scanned h scan levels)
-    (all : each (length levels) (λ i. leb (nat_abs (get_or levels i (pos 0))) 63) ≡ true)
-    (count : ℕ) (counted : count ≡ nonzeros_among scan levels p.covered (length scan - p.covered))
-    (r : Split) (split : SplitIn (code_of map configs) (record { context = p.count_context; value = count }) r) where
-  within : all_within (coded_levels h scan levels) ≡ true
-  within = small-within _ (coded-small h scan levels scanned all)
+module _ {map configs : List ℕ} (k : Coding.Coded map configs) (d : Coded) (all : each (length d.levels.now) (λ i. leb (nat_abs (get_or d.levels.now i (pos 0))) 63) ≡ true)
+    (r : Split) (split : SplitIn (code_of map configs) (count_token d) r) where
+  abbrev h : Shape
+  h = d.layout.shape
 
-  pub small-refused : 127 < r.symbol → 20 ≡ levels_refusal (code_of map configs) h (coded_levels h scan levels)
-  small-refused high = at20 _ h scan levels within (count-fails _ h scan levels laid scanned count counted r split high)
+  within : all_within (levels_in d) ≡ true
+  within = small-within _ (coded-small h d.scan.now d.levels.now d.scanned all)
 
-  pub small-passes : r.symbol ≤ 127 → 0 ≡ levels_refusal (code_of map configs) h (coded_levels h scan levels)
+  pub small-refused : 127 < r.symbol → 20 ≡ levels_refusal (code_of map configs) h (levels_in d)
+  small-refused high = at20 _ h d.scan.now d.levels.now within (count-fails d _ r split high)
+
+  pub small-passes : r.symbol ≤ 127 → 0 ≡ levels_refusal (code_of map configs) h (levels_in d)
   small-passes low =
-      let a = at-start h scan levels laid scanned count (cond (leb count (64 * p.covered / 16)) 1 0) counted refl in
-      none _ h scan levels within
-      (count-coded _ h scan levels laid scanned count counted r split low
+      let a = at-start d _ refl in
+      none _ h d.scan.now d.levels.now within
+      (count-coded d _ r split low
       ∙ ap (all_coded (code_of map configs)) a.tokens
-      ∙ small-coded k h _ _ _ (from-small h scan levels scanned all p.covered (64 * covered_by h - p.covered) (omega (arith, a.to))))
+      ∙ small-coded k h _ _ _ (from-small h d.scan.now d.levels.now d.scanned all d.layout.covered (64 * covered_by h - d.layout.covered) (omega (arith, a.to))))

@@ -1,19 +1,17 @@
 // Checks 24 and 20 of the writer: whether the levels lie within ±32,768, and whether every token has a symbol.
 #![tactic(auto)]
 
-ghost use Rattle.std.specs.Prelude.{◌≡◌, true, ◌-◌, ◌≤◌, leb, eqb, pos, nat_abs, length, get_or};
-ghost use Rattle.block.specs.Block.{nonzeros_among};
-ghost use Rattle.block.specs.declared.Shape.{Shape};
+ghost use Rattle.std.specs.Prelude.{◌≡◌, true, ◌≤◌, leb, eqb, pos, nat_abs, length, get_or};
 ghost use Rattle.prices.specs.Checks.{each};
-ghost use Rattle.block_tokens.specs.Tokens.{block_tokens, coded_levels};
+ghost use Rattle.refusals.specs.Numbers.{code_of};
 ghost use Rattle.block_tokens.specs.Code.{contents};
 ghost use Rattle.block_tokens.specs.Writing.{all_within, all_coded};
-ghost use Rattle.block_tokens.specs.Passed.{Scanned};
-ghost use Rattle.token_steps.specs.Steps.{LaidOut, Placed};
+ghost use Rattle.token_steps.specs.Steps.{levels_in, tokens_in};
 ghost use Rattle.token_bounds.specs.Bounds.{levels_refusal};
 
 use coding::code::Code;
-use token_steps::Layout;
+use refusals::Refusal;
+use token_steps::coded::Coded;
 
 fn is_small(level: i32) -> bool
     ensures { result ≡ leb (nat_abs level) 63 }
@@ -26,7 +24,7 @@ fn large(level: i32) -> u32
     ensures level_value { leb (nat_abs level) 63 ≡ eqb result 0 }
     ensures upper_bound { result ≤ 1 }
 {
-    if is_small(level) { 0 } else { 1 }
+    u32::from(!is_small(level))
 }
 
 // Whether every level is within ±63, the first c of the scan among them: then no value but the count reaches 128, and any configuration has symbols for it. In the list's
@@ -43,35 +41,31 @@ fn all_small(levels: &[i32]) -> bool
 }
 
 // Whether each level from scan position c on is within ±32,768.
-fn all_within(layout: Layout, scan: &[u32], levels: &[i32]) -> bool
-    requires { Placed layout scan.now levels.now }
-    ensures { (h : Shape) → LaidOut h layout → result ≡ all_within (coded_levels h scan.now levels.now) }
+fn all_within(coded: &Coded) -> bool
+    ensures { result ≡ all_within (levels_in coded.now) }
 {
-    for k in layout.covered..scan.len() {
-        if !bias::is_level(steps::level_at(scan, levels, k)) {
+    for k in coded.layout.covered..coded.scan.len() {
+        if !bias::is_level(steps::level_at(coded.scan, coded.levels, k)) {
             return false;
         }
     }
     true
 }
 
-// Whether each token has one of the 128 symbols, token by token. `count`: the nonzero levels from scan position c on.
-fn all_coded(code: &Code, layout: Layout, scan: &[u32], levels: &[i32], count: usize) -> bool
-    requires placed { Placed layout scan.now levels.now }
-    requires levels_value { (h : Shape) → LaidOut h layout → all_within (coded_levels h scan.now levels.now) ≡ true }
-    requires count_value { count ≡ nonzeros_among scan.now levels.now layout.covered (length scan.now - layout.covered) }
-    ensures { (h : Shape) → LaidOut h layout → Scanned h scan.now levels.now → result ≡ all_coded (contents code.now) (block_tokens h (coded_levels h scan.now levels.now)) }
+// Whether each token has one of the 128 symbols, token by token.
+fn all_coded(code: &Code, coded: &Coded) -> bool
+    requires { all_within (levels_in coded.now) ≡ true }
+    ensures { result ≡ all_coded (contents code.now) (tokens_in coded.now) }
 {
-    let split = token_steps::split_in(code, layout.count_context, count as u32);
-    if split.symbol > 127 {
+    if token_steps::count_split(code, coded).symbol > 127 {
         return false;
     }
-    let mut left = count;
-    let mut prev = steps::tokens::first_prev(layout.covered, count);
-    let mut k = layout.covered;
+    let mut left = coded.count;
+    let mut prev = steps::tokens::first_prev(coded.layout.covered, coded.count);
+    let mut k = coded.layout.covered;
     // It ends with the levels that are left, and not with an index.
     while left > 0 {
-        let step = token_steps::token_at(code, layout, scan, levels, k, left, prev);
+        let step = token_steps::step_at(code, coded, k, left, prev);
         if step.symbol > 127 {
             return false;
         }
@@ -82,22 +76,21 @@ fn all_coded(code: &Code, layout: Layout, scan: &[u32], levels: &[i32], count: u
     true
 }
 
-// 24, 20, or 0. `count`: the nonzero levels from scan position c on.
-pub fn check_levels(code: &Code, layout: Layout, scan: &[u32], levels: &[i32], count: usize) -> u32
-    requires placed { Placed layout scan.now levels.now }
-    requires count_value { count ≡ nonzeros_among scan.now levels.now layout.covered (length scan.now - layout.covered) }
-    ensures { (h : Shape) → LaidOut h layout → Scanned h scan.now levels.now → result ≡ levels_refusal (contents code.now) h (coded_levels h scan.now levels.now) }
+// 24 and 20. Where all levels are small the count alone decides.
+pub fn check_levels(code: &Code, coded: &Coded) -> Result<(), Refusal>
+    ensures { code_of result ≡ levels_refusal (contents code.now) coded.now.layout.shape (levels_in coded.now) }
 {
-    if all_small(levels) {
-        let split = token_steps::split_in(code, layout.count_context, count as u32);
-        return if split.symbol > 127 { 20 } else { 0 };
+    if all_small(coded.levels) {
+        if token_steps::count_split(code, coded).symbol > 127 {
+            return Err(Refusal::TokenSplit);
+        }
+        return Ok(());
     }
-    if !all_within(layout, scan, levels) {
-        return 24;
+    if !all_within(coded) {
+        return Err(Refusal::TokenLevel);
     }
-    if all_coded(code, layout, scan, levels, count) {
-        0
-    } else {
-        20
+    if !all_coded(code, coded) {
+        return Err(Refusal::TokenSplit);
     }
+    Ok(())
 }

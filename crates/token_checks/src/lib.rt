@@ -3,13 +3,15 @@
 
 ghost use Rattle.std.specs.Prelude.{◌≡◌};
 ghost use Rattle.laws.specs.Refusals.{first_refused};
-ghost use Rattle.block_tokens.specs.Outcome.{given_of, shape_checks, lent_refusal};
+ghost use Rattle.block_tokens.specs.Outcome.{given_of, shape_checks};
 ghost use Rattle.refusals.specs.Numbers.{code_of};
+ghost use Rattle.token_checks.specs.Checked.{IsChecked};
 
 use block::Shape;
+use coding::code::Code;
 use refusals::Refusal;
 
-// Checks 7, 8, 9 and 18.
+// Checks 7, 8, 9 and 18. (No plainer as one function with `block_checks`: 8 stands between the others, and is of other lists.)
 #[tactic(auto, unfolding(block_tokens::specs::Outcome::shape_checks, block_tokens::specs::Tokens::covered_by, laws::specs::Refusals::first_refused))]
 fn check_shape(shape: Shape, levels: usize, scan: usize) -> Result<(), Refusal>
     ensures { code_of result ≡ first_refused (shape_checks shape levels scan) 0 }
@@ -30,21 +32,21 @@ fn check_shape(shape: Shape, levels: usize, scan: usize) -> Result<(), Refusal>
     Ok(())
 }
 
-// Checks 1 to 4, 7, 8, 9, 18 and 11.
-pub fn check_lent(
+// Checks 1 to 4, 7, 8, 9, 18 and 11: the code, once all that is lent has passed.
+pub fn check_lent<'a>(
     clusters: u32,
-    map: &[u8],
-    configs: &[u8],
+    map: &'a [u8],
+    configs: &'a [u8],
     shape: Shape,
     scan: &[u32],
     levels: &[i32],
-) -> Result<(), Refusal>
-    ensures { code_of result ≡ lent_refusal (given_of clusters map.now configs.now shape scan.now) levels.now }
+) -> Result<Code<'a>, Refusal>
+    ensures { IsChecked (given_of clusters map.now configs.now shape scan.now) levels.now result }
 {
-    coding::check_coding(clusters, map, configs, true)?;
+    let code = coding::checked_code(clusters, map, configs, true)?;
     check_shape(shape, levels.len(), scan.len())?;
     if !scan::each_once(scan) {
         return Err(Refusal::Scan);
     }
-    Ok(())
+    Ok(code)
 }

@@ -12,7 +12,7 @@ use Rattle.least_cost.specs.Position.{nz}
 use Rattle.packing.specs.Signed.{pack_signed}
 use Rattle.prices.specs.Book.{Book, price, cluster_price}
 use Rattle.problem.specs.Tokens.{tokens_of, level_tokens as level_prices}
-use Rattle.block_tokens.specs.Tokens.{Token, covered_by, context_by, count_context, level_context, prev_by, nonzeros_of, level_tokens, block_tokens}
+use Rattle.block_tokens.specs.Tokens.{covered_by, context_by, count_context, level_context, prev_by, nonzeros_of, level_tokens, block_tokens}
 use Rattle.block_tokens.specs.Code.{symbol_in, extra_in}
 use Rattle.token_prices.specs.Priced.{token_cost, Priced}
 

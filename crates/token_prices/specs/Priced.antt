@@ -1,5 +1,5 @@
 -- The search prices what the writer writes.
-use Rattle.std.specs.Prelude.{ℕ, ◌≡◌, List, map, ℤ, pos, Float}
+use Rattle.std.specs.Prelude.{◌≡◌, List, map, ℤ, pos, Float}
 use Rattle.std.specs.Float.Ieee.{add, of_int}
 use Rattle.std.specs.Float.{binary32}
 use Rattle.block.specs.Block.{Block}

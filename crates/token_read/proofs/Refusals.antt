@@ -1,29 +1,25 @@
 -- The reader's refusals, test by test, as the first pass makes them. Assumes nothing.
-use Prim.Native.Nat.{ℕ, zero, suc, ◌+◌, ◌-◌, ◌*◌, ◌≤◌, ◌<◌}
+use Prim.Native.Nat.{ℕ, zero, suc, ◌+◌, ◌-◌, ◌*◌, ◌/◌, ◌≤◌, ◌<◌}
 use mathlib.Core.Path.{◌≡◌, refl, sym, ◌∙◌}
-use mathlib.Core.Bool.{Bool, true, false, cond, ◌&&◌}
+use mathlib.Core.Bool.{Bool, true, false, cond, not}
 use mathlib.Core.List.{List, [], ◌∷◌, zip_with}
 use native.Mathlib.Omega.{arith}
 use native.Mathlib.Numerals.{add-one}
-use borrow.Author.Tests.{eq-eqb, ne_eqb, lt-ltb, le-ltb, leb-true, le-leb, lt-leb}
-use lib.Dec.{leb, ltb}
+use borrow.Author.Tests.{eq-eqb, ne_eqb, lt-ltb, le-ltb, le-leb, lt-leb}
+use lib.Dec.{eqb, leb}
+use mir.Val.{bool_byte}
 use lib.IntN.{ℤ, pos, negsuc}
 use lib.ListN.{length, get_or, drop}
 use Rattle.block.specs.declared.Shape.{Shape}
 use Rattle.least_cost.specs.Position.{nz}
-use Rattle.packing.specs.Hybrid.{is_split, read_hybrid}
 use Rattle.packing.specs.Signed.{unpack_signed}
 use Rattle.packing.proofs.Signed.{pack-unpack}
 use Rattle.packing.specs.Signed.{pack_signed}
 use Rattle.block_tokens.specs.Tokens.{covered_by, count_context, level_context, prev_by}
-use Rattle.block_tokens.specs.Code.{Code, split_exponent, msb_in_token, lsb_in_token}
+use Rattle.block_tokens.specs.Code.{Code}
 use Rattle.block_tokens.specs.Reading.{Pair, pair, splits_in, value_in, Reading, Levels, Refused, before, read_levels, read_block, read_tokens}
 use Rattle.token_read.specs.Passes.{refusal_of}
-use Rattle.token_steps.specs.Steps.{LaidOut}
-use Rattle.token_steps.specs.declared.Layout.{Layout}
 use Rattle.block_tokens.proofs.Counts.{nz-most}
-use Rattle.block_tokens.proofs.Levels.{both}
-use Rattle.ac_context.specs.Contexts.{zero_density_context}
 
 -- ---- the two lists as pairs
 
@@ -44,35 +40,8 @@ drop-none (a ∷ xs) ys zero l = absurd (omega arith)
 drop-none (a ∷ xs) [] (suc i) l = refl
 drop-none (a ∷ xs) (b ∷ ys) (suc i) l = drop-none xs ys i (omega arith)
 
--- ---- a value
-
-split-most : (x : Code) (at : ℕ) (p : Pair) → splits_in x at p ≡ true → value_in x at p ≤ 131071
-unfolding splits_in value_in is_split
-split-most x at p e =
-    leb-true _ _ (both (ltb p.symbol 128 && ltb p.bits _) (leb (read_hybrid (split_exponent x at) (msb_in_token x at) (lsb_in_token x at) p.symbol p.bits) 131071) e).1
-
--- v is what the code has of a pair
-module _ (x : Code) (at : ℕ) (p : Pair) (v : ℕ) (e : v ≡ cond (splits_in x at p) (value_in x at p) 131072) where
-  pub record Value : Type 0 where
-    pub splits : splits_in x at p ≡ true
-    pub same : value_in x at p ≡ v
-
-  pub a-value : v ≤ 131071 → Value
-  a-value h = go (splits_in x at p) refl e
-    where
-      go : (b : Bool) → splits_in x at p ≡ b → v ≡ cond b (value_in x at p) 131072 → Value
-      go true d f = record { splits = d; same = sym f }
-      go false d f = absurd (omega arith)
-
-  pub no_value : 131071 < v → splits_in x at p ≡ false
-  no_value h = go (splits_in x at p) refl e
-    where
-      go : (b : Bool) → splits_in x at p ≡ b → v ≡ cond b (value_in x at p) 131072 → splits_in x at p ≡ false
-      go true d f = absurd (omega (arith, split-most x at p d))
-      go false d f = d
-
 -- whether a value stands for a nonzero level
-pub nz-value : (v : ℕ) → (v ≡ 0 → ⊥) → nz (unpack_signed v) ≡ 1
+nz-value : (v : ℕ) → (v ≡ 0 → ⊥) → nz (unpack_signed v) ≡ 1
 unfolding nz pack_signed
 nz-value v ne = go (unpack_signed v) (pack-unpack v)
   where
@@ -81,13 +50,10 @@ nz-value v ne = go (unpack_signed v) (pack-unpack v)
     go (pos (suc n)) e = refl
     go (negsuc n) e = refl
 
-pub zero-level : unpack_signed 0 ≡ pos 0
-unfolding unpack_signed
-zero-level = refl
-
-pub nz-zero : nz (unpack_signed 0) ≡ 0
+pub nonzero-byte : (v : ℕ) → bool_byte (not (eqb v 0)) ≡ nz (unpack_signed v)
 unfolding nz unpack_signed
-nz-zero = refl
+nonzero-byte zero = refl
+nonzero-byte (suc n) = rw (ne_eqb (suc n) 0 (λ e. omega (arith, e))) (sym (nz-value (suc n) (λ e. omega (arith, e))))
 
 -- ---- the levels
 
@@ -108,22 +74,19 @@ module _ (x : Code) (h : Shape) (k prev owed : ℕ) where
       unfolding read_levels refusal_of
       none_left = rw (ne_eqb owed 0 (λ e. omega arith), le-ltb _ owed most)
 
-      module _ (p : Pair) (ps : List Pair) (v : ℕ) (e : v ≡ cond (splits_in x (level_context h owed k prev) p) (value_in x (level_context h owed k prev) p) 131072) where
-        pub level-unsplit : 131071 < v → refusal_of (read_levels x h k prev owed (p ∷ ps)) ≡ 20
+      module _ (p : Pair) (ps : List Pair) where
+        pub level-unsplit : splits_in x (level_context h owed k prev) p ≡ false → refusal_of (read_levels x h k prev owed (p ∷ ps)) ≡ 20
         unfolding read_levels refusal_of
-        level-unsplit l = rw (ne_eqb owed 0 (λ e. omega arith), le-ltb _ owed most, no_value x (level_context h owed k prev) p v e l)
+        level-unsplit none = rw (ne_eqb owed 0 (λ e. omega arith), le-ltb _ owed most, none)
 
-        pub level-beyond : v ≤ 131071 → 65536 < v → refusal_of (read_levels x h k prev owed (p ∷ ps)) ≡ 24
-        unfolding read_levels refusal_of
-        level-beyond l g =
-            let a = a-value x (level_context h owed k prev) p v e l in
-            rw (ne_eqb owed 0 (λ e. omega arith), le-ltb _ owed most, a.splits, a.same, lt-leb v 65536 g)
+        module _ (splits : splits_in x (level_context h owed k prev) p ≡ true) {v : ℕ} (same : v ≡ value_in x (level_context h owed k prev) p) where
+          pub level-beyond : 65536 < v → refusal_of (read_levels x h k prev owed (p ∷ ps)) ≡ 24
+          unfolding read_levels refusal_of
+          level-beyond g = rw (ne_eqb owed 0 (λ e. omega arith), le-ltb _ owed most, splits, ← same, lt-leb v 65536 g)
 
-        pub level-next : v ≤ 65536 → refusal_of (read_levels x h k prev owed (p ∷ ps)) ≡ refusal_of (read_levels x h (k + 1) (nz (unpack_signed v)) (owed - nz (unpack_signed v)) ps)
-        unfolding read_levels
-        level-next l =
-            let a = a-value x (level_context h owed k prev) p v e (omega arith) in
-            rw (add-one k, ne_eqb owed 0 (λ e. omega arith), le-ltb _ owed most, a.splits, a.same, le-leb v 65536 l) (before-refusal _ _)
+          pub level-next : v ≤ 65536 → refusal_of (read_levels x h k prev owed (p ∷ ps)) ≡ refusal_of (read_levels x h (k + 1) (nz (unpack_signed v)) (owed - nz (unpack_signed v)) ps)
+          unfolding read_levels
+          level-next l = rw (add-one k, ne_eqb owed 0 (λ e. omega arith), le-ltb _ owed most, splits, ← same, le-leb v 65536 l) (before-refusal _ _)
 
   pub left_over : owed ≤ 0 → (p : Pair) (ps : List Pair) → refusal_of (read_levels x h k prev owed (p ∷ ps)) ≡ 22
   unfolding read_levels refusal_of
@@ -145,25 +108,22 @@ module _ (x : Code) (h : Shape) (symbols bits : List ℕ) where
     unfolding read_tokens read_block refusal_of
     empty e = rw (eq-eqb _ _ alike, drop-none symbols bits 0 (omega arith))
 
-    module _ (some : 0 < length symbols) (v : ℕ) (e : v ≡ cond (splits_in x (count_context h) (pair (get_or symbols 0 0) (get_or bits 0 0))) (value_in x (count_context h) (pair (get_or symbols 0 0) (get_or bits 0 0))) 131072) where
+    module _ (some : 0 < length symbols) where
       abbrev first : Pair
       first = pair (get_or symbols 0 0) (get_or bits 0 0)
 
-      pub count-unsplit : 131071 < v → refusal_of (read_tokens x h symbols bits) ≡ 20
+      pub count-unsplit : splits_in x (count_context h) first ≡ false → refusal_of (read_tokens x h symbols bits) ≡ 20
       unfolding read_tokens read_block refusal_of
-      count-unsplit l = rw (eq-eqb _ _ alike, drop-pairs symbols bits 0 alike some, no_value x (count_context h) first v e l)
+      count-unsplit none = rw (eq-eqb _ _ alike, drop-pairs symbols bits 0 alike some, none)
 
-      pub count-beyond : v ≤ 131071 → 63 * covered_by h < v → refusal_of (read_tokens x h symbols bits) ≡ 21
-      unfolding read_tokens read_block refusal_of
-      count-beyond l g =
-          let a = a-value x (count_context h) first v e l in
-          rw (eq-eqb _ _ alike, drop-pairs symbols bits 0 alike some, a.splits, a.same, lt-leb v _ g)
+      module _ (splits : splits_in x (count_context h) first ≡ true) {v : ℕ} (same : v ≡ value_in x (count_context h) first) where
+        pub count-beyond : 63 * covered_by h < v → refusal_of (read_tokens x h symbols bits) ≡ 21
+        unfolding read_tokens read_block refusal_of
+        count-beyond g = rw (eq-eqb _ _ alike, drop-pairs symbols bits 0 alike some, splits, ← same, lt-leb v _ g)
 
-      pub count_next : v ≤ 131071 → v ≤ 63 * covered_by h → refusal_of (read_tokens x h symbols bits) ≡ refusal_of (read_levels x h (covered_by h) (prev_by h v) v (drop 1 (zip_with pair symbols bits)))
-      unfolding read_tokens read_block
-      count_next l g =
-          let a = a-value x (count_context h) first v e l in
-          rw (eq-eqb _ _ alike, drop-pairs symbols bits 0 alike some, a.splits, a.same, le-leb v _ g)
+        pub count_next : v ≤ 63 * covered_by h → refusal_of (read_tokens x h symbols bits) ≡ refusal_of (read_levels x h (covered_by h) (prev_by h v) v (drop 1 (zip_with pair symbols bits)))
+        unfolding read_tokens read_block
+        count_next g = rw (eq-eqb _ _ alike, drop-pairs symbols bits 0 alike some, splits, ← same, le-leb v _ g)
 
 -- ---- the walk over the pairs
 
@@ -176,9 +136,24 @@ pub record Reads (x : Code) (h : Shape) (symbols bits : List ℕ) (k prev owed i
   pub place : i + covered_by h ≡ k + 1
   pub same : refusal_of (read_tokens x h symbols bits) ≡ refusal_of (read_levels x h k prev owed (drop i (zip_with pair symbols bits)))
 
-pub context_is : (h : Shape) {p : Layout} → LaidOut h p → (owed k prev d : ℕ) → d ≡ zero_density_context p.covered owed k prev → p.offset + d ≡ level_context h owed k prev
-unfolding level_context
-context_is h {p} laid owed k prev d e = rw (e, laid.offset_is, laid.covered_is)
+-- with the count read
+pub begun : (x : Code) (h : Shape) (symbols bits : List ℕ) → length symbols ≡ length bits → 0 < length symbols → {v prev : ℕ}
+    → splits_in x (count_context h) (pair (get_or symbols 0 0) (get_or bits 0 0)) ≡ true → v ≡ value_in x (count_context h) (pair (get_or symbols 0 0) (get_or bits 0 0)) → v ≤ 63 * covered_by h
+    → prev ≡ cond (leb v (64 * covered_by h / 16)) 1 0 → Reads x h symbols bits (covered_by h) prev v 1
+unfolding prev_by
+begun x h symbols bits alike some {v} {prev} splits same most e =
+    record {
+      from = omega arith;
+      to = omega arith;
+      flag = rw e (flag (leb v (64 * covered_by h / 16)));
+      index = some;
+      place = omega arith;
+      same = rw e (count_next x h symbols bits alike some splits same most);
+    }
+  where
+    flag : (b : Bool) → cond b 1 0 ≤ 1
+    flag true = omega arith
+    flag false = omega arith
 
 module _ (x : Code) (h : Shape) (symbols bits : List ℕ) (alike : length symbols ≡ length bits) (k prev owed i : ℕ) (r : Reads x h symbols bits k prev owed i) where
   pub left-over-22 : owed ≤ 0 → i < length symbols → 22 ≡ refusal_of (read_tokens x h symbols bits)
@@ -195,24 +170,24 @@ module _ (x : Code) (h : Shape) (symbols bits : List ℕ) (alike : length symbol
       pub ended-22 : length symbols ≤ i → 22 ≡ refusal_of (read_tokens x h symbols bits)
       ended-22 l = sym (r.same ∙ rw (drop-none symbols bits i l) (none_left x h k prev owed some most))
 
-      module _ (inside : i < length symbols) (at v : ℕ) (place : at ≡ level_context h owed k prev)
-          (value : v ≡ cond (splits_in x at (pair (get_or symbols i 0) (get_or bits i 0))) (value_in x at (pair (get_or symbols i 0) (get_or bits i 0))) 131072) where
-        here : v ≡ cond (splits_in x (level_context h owed k prev) (pair (get_or symbols i 0) (get_or bits i 0))) (value_in x (level_context h owed k prev) (pair (get_or symbols i 0) (get_or bits i 0))) 131072
-        here = rw place at value
+      module _ (inside : i < length symbols) where
+        abbrev here : Pair
+        here = pair (get_or symbols i 0) (get_or bits i 0)
 
-        pub unsplit-20 : 131071 < v → 20 ≡ refusal_of (read_tokens x h symbols bits)
-        unsplit-20 l = sym (r.same ∙ rw (drop-pairs symbols bits i alike inside) (level-unsplit x h k prev owed some most _ _ v here l))
+        pub unsplit-20 : splits_in x (level_context h owed k prev) here ≡ false → 20 ≡ refusal_of (read_tokens x h symbols bits)
+        unsplit-20 none = sym (r.same ∙ rw (drop-pairs symbols bits i alike inside) (level-unsplit x h k prev owed some most _ _ none))
 
-        pub beyond-24 : v ≤ 131071 → 65536 < v → 24 ≡ refusal_of (read_tokens x h symbols bits)
-        beyond-24 l g = sym (r.same ∙ rw (drop-pairs symbols bits i alike inside) (level-beyond x h k prev owed some most _ _ v here l g))
+        module _ (splits : splits_in x (level_context h owed k prev) here ≡ true) {v : ℕ} (same : v ≡ value_in x (level_context h owed k prev) here) where
+          pub beyond-24 : 65536 < v → 24 ≡ refusal_of (read_tokens x h symbols bits)
+          beyond-24 g = sym (r.same ∙ rw (drop-pairs symbols bits i alike inside) (level-beyond x h k prev owed some most _ _ splits same g))
 
-        pub on : v ≤ 65536 → Reads x h symbols bits (k + 1) (nz (unpack_signed v)) (owed - nz (unpack_signed v)) (i + 1)
-        on l =
-            record {
-              from = omega (arith, r.from);
-              to = omega (arith, r.to);
-              flag = nz-most (unpack_signed v);
-              index = omega arith;
-              place = omega (arith, r.place);
-              same = r.same ∙ rw (drop-pairs symbols bits i alike inside) (level-next x h k prev owed some most _ _ v here l);
-            }
+          pub on : v ≤ 65536 → Reads x h symbols bits (k + 1) (nz (unpack_signed v)) (owed - nz (unpack_signed v)) (i + 1)
+          on l =
+              record {
+                from = omega (arith, r.from);
+                to = omega (arith, r.to);
+                flag = nz-most (unpack_signed v);
+                index = omega arith;
+                place = omega (arith, r.place);
+                same = r.same ∙ rw (drop-pairs symbols bits i alike inside) (level-next x h k prev owed some most _ _ splits same l);
+              }

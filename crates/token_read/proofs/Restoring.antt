@@ -162,7 +162,7 @@ module _ (x : Code) (h : Shape) (symbols bits : List ℕ) (qs : List ℤ) where
 pub record Started (x : Code) (h : Shape) (symbols bits : List ℕ) (qs : List ℤ) (count : ℕ) : Type 0 where
   pub alike : length symbols ≡ length bits
   pub some : 0 < length symbols
-  pub value-is : cond (splits_in x (count_context h) (pair (get_or symbols 0 0) (get_or bits 0 0))) (value_in x (count_context h) (pair (get_or symbols 0 0) (get_or bits 0 0))) 131072 ≡ count
+  pub splits : splits_in x (count_context h) (pair (get_or symbols 0 0) (get_or bits 0 0)) ≡ true
   pub most : count ≤ 63 * covered_by h
   pub at : Restores x h symbols bits qs (covered_by h) (prev_by h count) count 1
 
@@ -188,7 +188,7 @@ started x h (a ∷ symbols) (b ∷ bits) qs e =
     record {
       alike = eqb-true _ _ same.0;
       some = omega arith;
-      value-is = rw split.0;
+      splits = split.0;
       most = leb-true _ _ fits.0;
       at = record { from = omega arith; to = omega arith; flag = flag-most (leb count (64 * covered_by h / 16)); place = omega arith; read = rw none fits.1 };
     }

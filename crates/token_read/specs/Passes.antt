@@ -1,21 +1,10 @@
 -- What the reader's passes go by, and what they give.
-use Rattle.std.specs.Prelude.{ℕ, ◌+◌, ◌-◌, ◌*◌, ◌≤◌, ◌<◌, ◌≡◌, List, ℤ, pos, length, get_or}
-use Rattle.ac_context.specs.Contexts.{Covered, Coefficient}
+use Rattle.std.specs.Prelude.{ℕ, ◌-◌, ◌*◌, ◌≤◌, ◌≡◌, List, ℤ, pos, get_or}
 use Rattle.block.specs.declared.Shape.{Shape}
 use Rattle.scan.specs.Scan.{put}
 use Rattle.block_tokens.specs.Tokens.{covered_by}
 use Rattle.block_tokens.specs.Code.{Code}
 use Rattle.block_tokens.specs.Reading.{Reading, Levels, Refused, read_tokens}
-use Rattle.token_steps.specs.declared.Layout.{Layout}
-
--- pair i can be read in the context of scan position k, where `owed` levels are owed
-pub record HasPair (p : Layout) (symbols bits : List ℕ) (i k owed prev : ℕ) : Type 0 where
-  pub covers : Covered p.covered p.log2
-  pub offset_most : p.offset + 457 < 14850
-  pub coefficient : Coefficient p.covered owed k prev
-  pub in_symbols : i < length symbols
-  pub in_bits : i < length bits
-  pub small : i ≤ 65537
 
 -- the number of the refusal; 0 where there is none
 unfoldable pub refusal_of : Reading → ℕ

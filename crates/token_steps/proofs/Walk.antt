@@ -1,6 +1,6 @@
 -- The walk over a block's tokens, as the loops make it: at scan position k, with `left` nonzero levels from there on. Assumes nothing.
 use Prim.Native.Nat.{ℕ, zero, suc, ◌+◌, ◌-◌, ◌*◌, ◌/◌, ◌≤◌, ◌<◌, suc-le-suc}
-use mathlib.Core.Path.{◌≡◌, refl, sym, ap, ap₂, ◌∙◌}
+use mathlib.Core.Path.{◌≡◌, refl, sym, ap, ◌∙◌}
 use mathlib.Core.Bool.{Bool, true, false, cond}
 use mathlib.Core.List.{List, [], ◌∷◌}
 use native.Mathlib.Omega.{arith}
@@ -11,7 +11,7 @@ use lib.Dec.{leb}
 use lib.IntN.{ℤ, nat_abs}
 use lib.ListN.{length, drop, length-drop}
 use lib.Seq.{drop-drop}
-use Rattle.ac_context.specs.Contexts.{Coefficient, fine_zero_density_contexts_offset, zero_density_context}
+use Rattle.ac_context.specs.Contexts.{Coefficient}
 use Rattle.block.specs.declared.Shape.{Shape}
 use Rattle.block.specs.Block.{nonzeros_among}
 use Rattle.least_cost.specs.Position.{nz}
@@ -19,13 +19,12 @@ use Rattle.least_cost.specs.Choice.{remaining}
 use Rattle.packing.specs.Signed.{pack_signed}
 use Rattle.packing.specs.declared.Split.{Split}
 use Rattle.scan.specs.Scan.{level_at}
-use Rattle.block_tokens.specs.Tokens.{Token, covered_by, context_by, count_context, level_context, prev_by, nonzeros_of, level_tokens, block_tokens, levels_from, coded_levels}
-use Rattle.block_tokens.specs.Code.{Code, symbol_in, extra_in, bits_in}
+use Rattle.block_tokens.specs.Tokens.{Token, covered_by, count_context, level_context, prev_by, nonzeros_of, level_tokens, block_tokens, levels_from, coded_levels}
+use Rattle.block_tokens.specs.Code.{Code, symbol_in}
 use Rattle.block_tokens.specs.Writing.{all_within, all_coded}
-use Rattle.block_tokens.specs.Passed.{Scanned}
-use Rattle.token_steps.specs.Steps.{LaidOut, SplitIn, HasToken, StepAt}
-use Rattle.token_steps.specs.declared.Layout.{Layout}
-use Rattle.token_steps.specs.declared.Step.{Step}
+use Rattle.token_steps.specs.Steps.{tokens_in, count_token, SplitIn}
+use Rattle.token_steps.specs.declared.coded.Coded.{Coded}
+use Rattle.steps.proofs.Counting.{among-most}
 use Rattle.block_tokens.proofs.Counts.{nz-most, nonzeros-most}
 use Rattle.block_tokens.proofs.Levels.{both, no-tokens, next-token}
 use Rattle.block_tokens.proofs.Through.{from-length}
@@ -145,42 +144,6 @@ module _ (h : Shape) (scan : List ℕ) (levels : List ℤ) where
   pub at_last : (k prev left : ℕ) → At k prev left → left ≤ 0 → length all_tokens ≡ before k
   at_last k prev left a none = omega (arith, sym (length-drop (before k) all_tokens) ∙ ap length (nothing_left k prev left a none), a.passed)
 
-  -- ---- the code's step
-
-  module _ {p : Layout} (laid : LaidOut h p) where
-    pub has-token : Scanned h scan levels → all_within (coded_levels h scan levels) ≡ true → (k prev left : ℕ) → At k prev left → Next k prev left → HasToken p scan levels k left prev
-    has-token scanned small k prev left a n =
-        record {
-          covers = laid.covers;
-          offset_most = laid.offset_most;
-          coefficient = rw laid.covered_is n.coefficient;
-          scanned = rw scanned.order.size n.below;
-          within = rw scanned.long (scanned.order.bound k n.below);
-          small = coded-small h scan levels k small a.from n.below;
-        }
-
-    -- the token of scan position k, as it is written
-    pub record Written (x : Code) (t : Token) (r : Step) : Type 0 where
-      pub context_is : r.context ≡ t.context
-      pub symbol_is : r.symbol ≡ symbol_in x t
-      pub extra_is : r.extra_bits ≡ extra_in x t
-      pub bits_are : r.bits ≡ bits_in x t
-
-    pub written_at : (x : Code) (k prev left : ℕ) (r : Step) → StepAt x p scan levels k left prev r → Written x (record { context = level_context h left k prev; value = pack_signed (level_at scan levels k) }) r
-    unfolding level_context
-    written_at x k prev left r s =
-        let context : r.context ≡ fine_zero_density_contexts_offset (context_by h) + zero_density_context (covered_by h) left k prev =
-        s.context_is ∙ ap₂ (λ (o c : ℕ). o + zero_density_context c left k prev) laid.offset_is laid.covered_is
-        in
-        record { context_is = context; symbol_is = rw context at s.symbol_is; extra_is = rw context at s.extra_is; bits_are = rw context at s.bits_are }
-
-    -- the first scan position, by what the code holds
-    pub at-start : Scanned h scan levels → (count prev : ℕ) → count ≡ nonzeros_among scan levels p.covered (length scan - p.covered)
-        → prev ≡ cond (leb count (64 * p.covered / 16)) 1 0 → At p.covered prev count
-    unfolding prev_by
-    at-start scanned count prev ec ep =
-        rw laid.covered_is (at_first count prev (rw (scanned.order.size, laid.covered_is) at ec) (rw laid.covered_is at ep))
-
   -- ---- the count's token
 
   pub first-token : (count : ℕ) → count ≡ nonzeros_of (coded_levels h scan levels) → all_tokens ≡ record { context = count_context h; value = count } ∷ drop (before (covered_by h)) all_tokens
@@ -215,9 +178,9 @@ unfolding all_coded
 coded-more x {ts} {rest} {t} e low = rw e (simp (lt-ltb (symbol_in x t) 128 low))
 
 -- what the first pass knows at scan position k: all tokens in front have symbols
-pub record Counting (x : Code) (h : Shape) (scan : List ℕ) (levels : List ℤ) (k prev left : ℕ) : Type 0 where
-  pub at : At h scan levels k prev left
-  pub coded : all_coded x (all_tokens h scan levels) ≡ all_coded x (drop (before h scan levels k) (all_tokens h scan levels))
+pub record Counting (x : Code) (d : Coded) (k prev left : ℕ) : Type 0 where
+  pub at : At d.layout.shape d.scan.now d.levels.now k prev left
+  pub coded : all_coded x (tokens_in d) ≡ all_coded x (drop (before d.layout.shape d.scan.now d.levels.now k) (tokens_in d))
 
 pub coded-next : (x : Code) (all : List Token) {ts rest : List Token} {t : Token} → all_coded x all ≡ all_coded x ts → ts ≡ t ∷ rest → symbol_in x t < 128 → all_coded x all ≡ all_coded x rest
 coded-next x all a e low = a ∙ coded-more x e low
@@ -226,46 +189,46 @@ pub coded-fails : (x : Code) (all : List Token) {ts rest : List Token} {t : Toke
 unfolding all_coded
 coded-fails x all {ts} {rest} {t} a e high = a ∙ rw e (simp (le-ltb (symbol_in x t) 128 high))
 
--- ---- the count's token, by what the code holds
+-- ---- by what the code holds
 
-module _ (x : Code) (h : Shape) (scan : List ℕ) (levels : List ℤ) {p : Layout} (laid : LaidOut h p) (scanned : Scanned h scan levels)
-    (count : ℕ) (counted : count ≡ nonzeros_among scan levels p.covered (length scan - p.covered)) where
-  pub count-token : all_tokens h scan levels ≡ record { context = p.count_context; value = count } ∷ drop (before h scan levels p.covered) (all_tokens h scan levels)
-  count-token =
-      rw (laid.covered_is, laid.count_is)
-      (first-token h scan levels count (coded-count h scan levels p.covered (length scan) count laid.covered_is scanned.order.size counted))
+module _ (d : Coded) where
+  pub size : length d.scan.now ≡ 64 * d.layout.covered
+  size = omega (arith, d.layout.laid.covered_is, d.scanned.order.size)
 
-  module _ (r : Split) (split : SplitIn x (record { context = p.count_context; value = count }) r) where
-    pub count-coded : r.symbol ≤ 127 → all_coded x (all_tokens h scan levels) ≡ all_coded x (drop (before h scan levels p.covered) (all_tokens h scan levels))
-    count-coded low = coded-next x (all_tokens h scan levels) refl count-token (rw split.symbol_is at (suc-le-suc low))
+  pub count_most : d.count ≤ 65536
+  count_most = omega (arith, d.counted, among-most d.scan.now d.levels.now d.layout.covered (length d.scan.now - d.layout.covered), size, d.layout.laid.most)
 
-    pub count-fails : 127 < r.symbol → all_coded x (all_tokens h scan levels) ≡ false
-    count-fails high = coded-fails x (all_tokens h scan levels) refl count-token (rw split.symbol_is at high)
+  -- the first scan position
+  pub at-start : (prev : ℕ) → prev ≡ cond (leb d.count (64 * d.layout.covered / 16)) 1 0 → At d.layout.shape d.scan.now d.levels.now d.layout.covered prev d.count
+  unfolding prev_by
+  at-start prev e =
+      let laid = d.layout.laid in
+      rw laid.covered_is (at_first d.layout.shape d.scan.now d.levels.now d.count prev (rw (d.scanned.order.size, laid.covered_is) at d.counted) (rw laid.covered_is at e))
+
+  pub count-first : tokens_in d ≡ count_token d ∷ drop (before d.layout.shape d.scan.now d.levels.now d.layout.covered) (tokens_in d)
+  count-first =
+      let laid = d.layout.laid in
+      rw laid.covered_is
+      (first-token d.layout.shape d.scan.now d.levels.now d.count (coded-count d.layout.shape d.scan.now d.levels.now d.layout.covered (length d.scan.now) d.count laid.covered_is d.scanned.order.size d.counted))
+
+  module _ (x : Code) (r : Split) (split : SplitIn x (count_token d) r) where
+    pub count-coded : r.symbol ≤ 127 → all_coded x (tokens_in d) ≡ all_coded x (drop (before d.layout.shape d.scan.now d.levels.now d.layout.covered) (tokens_in d))
+    count-coded low = coded-next x (tokens_in d) refl count-first (rw split.symbol_is at (suc-le-suc low))
+
+    pub count-fails : 127 < r.symbol → all_coded x (tokens_in d) ≡ false
+    count-fails high = coded-fails x (tokens_in d) refl count-first (rw split.symbol_is at high)
 
 -- where nothing is left all tokens were met
-pub counted-all : (x : Code) (h : Shape) (scan : List ℕ) (levels : List ℤ) (k prev left : ℕ) → Counting x h scan levels k prev left → left ≤ 0
-    → all_coded x (all_tokens h scan levels) ≡ true
+pub counted-all : (x : Code) (d : Coded) (k prev left : ℕ) → Counting x d k prev left → left ≤ 0 → all_coded x (tokens_in d) ≡ true
 unfolding all_coded
-counted-all x h scan levels k prev left c none = c.coded ∙ ap (all_coded x) (nothing_left h scan levels k prev left c.at none)
+counted-all x d k prev left c none = c.coded ∙ ap (all_coded x) (nothing_left d.layout.shape d.scan.now d.levels.now k prev left c.at none)
 
 -- ---- how many tokens there are
 
 -- scan position k is reached with `left` nonzero levels left, whatever `prev` is
-pub record Reached (h : Shape) (scan : List ℕ) (levels : List ℤ) (k left : ℕ) : Type 0 where
+pub record Reached (d : Coded) (k left : ℕ) : Type 0 where
   pub prev : ℕ
-  pub at : At h scan levels k prev left
+  pub at : At d.layout.shape d.scan.now d.levels.now k prev left
 
-pub reached-first : (h : Shape) (scan : List ℕ) (levels : List ℤ) → Scanned h scan levels → (c count : ℕ) → c ≡ covered_by h → count ≡ nonzeros_among scan levels c (length scan - c) → Reached h scan levels c count
-unfolding prev_by
-reached-first h scan levels scanned c count e counted =
-    rw e
-    (record {
-      prev = prev_by h count;
-      at = at_first h scan levels count (prev_by h count) (rw (e, scanned.order.size) at counted) refl;
-    })
-
--- ---- shapes of one layout have the same levels
-
-pub same_coded : {h h' : Shape} {p : Layout} → LaidOut h p → LaidOut h' p → (scan : List ℕ) (levels : List ℤ) → coded_levels h scan levels ≡ coded_levels h' scan levels
-unfolding coded_levels
-same_coded a b scan levels = ap (λ (c : ℕ). levels_from scan levels c (63 * c)) (sym a.covered_is ∙ b.covered_is)
+pub reached-first : (d : Coded) → Reached d d.layout.covered d.count
+reached-first d = record { prev = _; at = at-start d _ refl }

@@ -1,26 +1,38 @@
 -- What the shared steps give.
-use Rattle.std.specs.Prelude.{ℕ, ◌+◌, ◌≤◌, ◌<◌, ◌≡◌, List, ℤ, nat_abs, length, get_or}
-use Rattle.ac_context.specs.Contexts.{Covered, Coefficient, fine_zero_density_contexts_offset, zero_density_context}
+use Rattle.std.specs.Prelude.{ℕ, ◌<◌, ◌≡◌, true, List, ℤ}
 use Rattle.block.specs.declared.Shape.{Shape}
 use Rattle.least_cost.specs.Position.{nz}
 use Rattle.packing.specs.Signed.{pack_signed}
+use Rattle.packing.specs.Hybrid.{valid_config}
+use Rattle.packing.specs.declared.HybridUintConfig.{HybridUintConfig}
 use Rattle.packing.specs.declared.Split.{Split}
 use Rattle.scan.specs.Scan.{level_at}
-use Rattle.block_tokens.specs.Tokens.{Token, covered_by, context_by, count_context}
-use Rattle.block_tokens.specs.Code.{Code, symbol_in, extra_in, bits_in}
-use Rattle.block_tokens.specs.Passed.{Scanned}
-use Rattle.token_steps.specs.declared.Layout.{Layout}
+use Rattle.block_tokens.specs.Tokens.{Token, count_context, level_context, block_tokens, coded_levels}
+use Rattle.block_tokens.specs.Code.{Code, split_exponent, msb_in_token, lsb_in_token, symbol_in, extra_in, bits_in}
 use Rattle.token_steps.specs.declared.Step.{Step}
+use Rattle.token_steps.specs.declared.coded.Coded.{Coded}
 
--- what a shape gives
-pub record LaidOut (h : Shape) (p : Layout) : Type 0 where
-  pub covered_is : p.covered ≡ covered_by h
-  pub most : p.covered ≤ 1024
-  pub covers : Covered p.covered p.log2
-  pub offset_is : p.offset ≡ fine_zero_density_contexts_offset (context_by h)
-  pub offset_most : p.offset + 457 < 14850
-  pub count_is : p.count_context ≡ count_context h
-  pub count_most : p.count_context < 14850
+-- the levels from scan position c on, and the block's tokens
+abbrev pub levels_in : Coded → List ℤ
+levels_in d = coded_levels d.layout.shape d.scan.now d.levels.now
+
+abbrev pub tokens_in : Coded → List Token
+tokens_in d = block_tokens d.layout.shape (levels_in d)
+
+-- the first token: the count's
+abbrev pub count_token : Coded → Token
+count_token d = record { context = count_context d.layout.shape; value = d.count }
+
+-- the token of scan position k, where `left` nonzero levels stand from k on
+abbrev pub level_token : Shape → List ℕ → List ℤ → ℕ → ℕ → ℕ → Token
+level_token h scan levels k left prev = record { context = level_context h left k prev; value = pack_signed (level_at scan levels k) }
+
+-- the configuration of a context's cluster
+pub record ConfigAt (x : Code) (at : ℕ) (r : HybridUintConfig) : Type 0 where
+  pub split_exponent_is : r.split_exponent ≡ split_exponent x at
+  pub msb_is : r.msb_in_token ≡ msb_in_token x at
+  pub lsb_is : r.lsb_in_token ≡ lsb_in_token x at
+  pub valid : valid_config r.split_exponent r.msb_in_token r.lsb_in_token ≡ true
 
 -- the split of a token's value
 pub record SplitIn (x : Code) (t : Token) (r : Split) : Type 0 where
@@ -28,31 +40,11 @@ pub record SplitIn (x : Code) (t : Token) (r : Split) : Type 0 where
   pub extra_is : r.extra_bits ≡ extra_in x t
   pub bits_are : r.bits ≡ bits_in x t
 
--- a layout of some shape
-pub record Laid (p : Layout) : Type 0 where
-  pub shape : Shape
-  pub laid : LaidOut shape p
-
--- the same, with a scan and levels of it
-pub record Placed (p : Layout) (scan : List ℕ) (levels : List ℤ) : Type 0 where
-  pub shape : Shape
-  pub laid : LaidOut shape p
-  pub scanned : Scanned shape scan levels
-
--- scan position k has a token, and its level can be read and packed
-pub record HasToken (p : Layout) (scan : List ℕ) (levels : List ℤ) (k left prev : ℕ) : Type 0 where
-  pub covers : Covered p.covered p.log2
-  pub offset_most : p.offset + 457 < 14850
-  pub coefficient : Coefficient p.covered left k prev
-  pub scanned : k < length scan
-  pub within : get_or scan k 0 < length levels
-  pub small : nat_abs (level_at scan levels k) ≤ 32768
-
--- its token, written, and whether its level is nonzero
-pub record StepAt (x : Code) (p : Layout) (scan : List ℕ) (levels : List ℤ) (k left prev : ℕ) (r : Step) : Type 0 where
-  pub context_is : r.context ≡ p.offset + zero_density_context p.covered left k prev
+-- a level's token, written, and whether the level is nonzero
+pub record StepAt (x : Code) (t : Token) (level : ℤ) (r : Step) : Type 0 where
+  pub context_is : r.context ≡ t.context
   pub context_most : r.context < 14850
-  pub symbol_is : r.symbol ≡ symbol_in x (record { context = r.context; value = pack_signed (level_at scan levels k) })
-  pub extra_is : r.extra_bits ≡ extra_in x (record { context = r.context; value = pack_signed (level_at scan levels k) })
-  pub bits_are : r.bits ≡ bits_in x (record { context = r.context; value = pack_signed (level_at scan levels k) })
-  pub nonzero_is : r.nonzero ≡ nz (level_at scan levels k)
+  pub symbol_is : r.symbol ≡ symbol_in x t
+  pub extra_is : r.extra_bits ≡ extra_in x t
+  pub bits_are : r.bits ≡ bits_in x t
+  pub nonzero_is : r.nonzero ≡ nz level

@@ -1,41 +1,58 @@
 // The steps that the writer and the reader of a block's tokens share.
 #![tactic(auto)]
 
-ghost use Rattle.std.specs.Prelude.{◌≡◌, true, cond, ◌<◌, ◌≤◌};
+pub mod coded;
+pub mod layout;
+
+ghost use Rattle.std.specs.Prelude.{◌≡◌, true, ◌<◌, ◌≤◌, nat_abs, SomeIff};
+ghost use Rattle.ac_context.specs.Contexts.{Coefficient};
+ghost use Rattle.scan.specs.Scan.{level_at};
+ghost use Rattle.block_tokens.specs.Tokens.{covered_by, level_context};
 ghost use Rattle.block_tokens.specs.Code.{contents};
 ghost use Rattle.block_tokens.specs.Passed.{Shaped};
 ghost use Rattle.block_tokens.specs.Reading.{pair, splits_in, value_in};
-ghost use Rattle.token_steps.specs.Steps.{LaidOut, SplitIn, HasToken, StepAt};
+ghost use Rattle.token_steps.specs.Steps.{count_token, level_token, ConfigAt, SplitIn, StepAt};
 
 use block::Shape;
+use coded::Coded;
 use coding::code::Code;
-use packing::Split;
-
-// What a block's shape gives: the covered blocks and their logarithm, the first coefficient context, and the count's context.
-#[derive(Clone, Copy)]
-pub struct Layout {
-    pub covered: usize,
-    pub log2: u32,
-    pub offset: usize,
-    pub count_context: usize,
-}
+use layout::Layout;
+use packing::{HybridUintConfig, Split};
 
 pub fn layout_of(shape: Shape) -> Layout
     requires { Shaped shape }
-    ensures { LaidOut shape result }
+    ensures { result.shape ≡ shape }
 {
     let covered = shape.cx as usize * shape.cy as usize;
     let block = ac_context::fine_block_context(
-        shape.channel as usize,
-        shape.strategy as usize,
+        usize::from(shape.channel),
+        usize::from(shape.strategy),
         shape.qf_hi,
     );
+    let count_context = ac_context::fine_non_zero_context(u32::from(shape.predicted), block);
     Layout {
+        shape,
         covered,
         log2: ac_context::log2_covered(covered),
         offset: ac_context::fine_zero_density_contexts_offset(block) as usize,
-        count_context: ac_context::fine_non_zero_context(shape.predicted as u32, block) as usize,
+        count_context: count_context as usize,
     }
+}
+
+// The context of the level at scan position k, where `left` nonzero levels stand from k on.
+pub fn context_at(layout: Layout, left: usize, k: usize, prev: usize) -> usize
+    requires { Coefficient (covered_by layout.shape) left k prev }
+    ensures { (result ≡ level_context layout.shape left k prev) × (result < 14850) }
+{
+    layout.offset + ac_context::zero_density_context(left, k, layout.covered, layout.log2, prev)
+}
+
+// The configuration of a context's cluster.
+fn config_at(code: &Code, context: usize) -> HybridUintConfig
+    requires { context < 14850 }
+    ensures { ConfigAt (contents code.now) context result }
+{
+    prices::config_of(code.configs, usize::from(code.map[context]))
 }
 
 // The split of a value under the configuration of a context's cluster.
@@ -43,17 +60,15 @@ pub fn split_in(code: &Code, context: usize, value: u32) -> Split
     requires context_bound { (context < 14850) × (value ≤ 131071) }
     ensures { SplitIn (contents code.now) (record { context = context; value = value }) result }
 {
-    let cluster = code.map[context] as usize;
-    packing::uint_encode_with_config(value, prices::config_of(code.configs, cluster))
+    packing::uint_encode_with_config(value, config_at(code, context))
 }
 
-// The value of a symbol and its extra bits under the configuration of a context's cluster; NO_VALUE where they split none.
-pub fn value_in(code: &Code, context: usize, symbol: u32, bits: u32) -> u32
+// The value of a symbol and its extra bits under the configuration of a context's cluster; `None` where they split none.
+pub fn value_in(code: &Code, context: usize, symbol: u32, bits: u32) -> Option<u32>
     requires context_bound { context < 14850 }
-    ensures { let x = contents code.now in result ≡ cond (splits_in x context (pair symbol bits)) (value_in x context (pair symbol bits)) 131072 }
+    ensures { let x = contents code.now in let p = pair symbol bits in SomeIff result (splits_in x context p ≡ true) (value_in x context p) }
 {
-    let cluster = code.map[context] as usize;
-    packing::uint_decode_with_config(symbol, bits, prices::config_of(code.configs, cluster))
+    packing::uint_decode_with_config(symbol, bits, config_at(code, context))
 }
 
 // The same where they are the split of a value.
@@ -62,8 +77,14 @@ pub fn read_in(code: &Code, context: usize, symbol: u32, bits: u32) -> u32
     requires bits_value { splits_in (contents code.now) context (pair symbol bits) ≡ true }
     ensures { result ≡ value_in (contents code.now) context (pair symbol bits) }
 {
-    let cluster = code.map[context] as usize;
-    packing::uint_read_with_config(symbol, bits, prices::config_of(code.configs, cluster))
+    packing::uint_read_with_config(symbol, bits, config_at(code, context))
+}
+
+// The split of the count, which is the first token's value.
+pub fn count_split(code: &Code, coded: &Coded) -> Split
+    ensures { SplitIn (contents code.now) (count_token coded.now) result }
+{
+    split_in(code, coded.layout.count_context, coded.count as u32)
 }
 
 // A level's token as it is written, and whether the level is nonzero.
@@ -76,21 +97,13 @@ pub struct Step {
     pub nonzero: usize,
 }
 
-pub fn token_at(
-    code: &Code,
-    layout: Layout,
-    scan: &[u32],
-    levels: &[i32],
-    k: usize,
-    left: usize,
-    prev: usize,
-) -> Step
-    requires has_token { HasToken layout scan.now levels.now k left prev }
-    ensures { StepAt (contents code.now) layout scan.now levels.now k left prev result }
+pub fn step_at(code: &Code, coded: &Coded, k: usize, left: usize, prev: usize) -> Step
+    requires coefficient { Coefficient (covered_by coded.now.layout.shape) left k prev }
+    requires small { nat_abs (level_at coded.now.scan.now coded.now.levels.now k) ≤ 32768 }
+    ensures { StepAt (contents code.now) (level_token coded.now.layout.shape coded.now.scan.now coded.now.levels.now k left prev) (level_at coded.now.scan.now coded.now.levels.now k) result }
 {
-    let level = steps::level_at(scan, levels, k);
-    let context = layout.offset
-        + ac_context::zero_density_context(left, k, layout.covered, layout.log2, prev);
+    let level = steps::level_at(coded.scan, coded.levels, k);
+    let context = context_at(coded.layout, left, k, prev);
     let split = split_in(code, context, packing::pack_signed(level));
     Step {
         context,

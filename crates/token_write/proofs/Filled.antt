@@ -1,17 +1,23 @@
 -- An output that is filled token by token. Assumes nothing.
-use Prim.Native.Nat.{ℕ, zero, suc, ◌+◌, ◌≤◌}
-use mathlib.Core.Path.{◌≡◌, refl, ap, ◌∙◌}
+use Prim.Native.Nat.{ℕ, zero, suc, ◌+◌, ◌-◌, ◌*◌, ◌/◌, ◌≤◌, ◌<◌}
+use mathlib.Core.Path.{◌≡◌, refl, sym, ap, ◌∙◌}
 use mathlib.Core.List.{List, [], ◌∷◌, ◌++◌, map}
+use mathlib.Core.Bool.{cond}
 use native.Mathlib.Omega.{arith}
 use native.Mathlib.Numerals.{add-one}
-use lib.IntN.{ℤ}
-use lib.ListN.{length, take, drop, set, length-map}
+use lib.ListN.{length, take, drop, set, length-map, length-set}
+use lib.Dec.{leb}
 use lib.Seq.{take-length, drop-set-lt}
-use Rattle.block.specs.declared.Shape.{Shape}
 use Rattle.block_tokens.specs.Tokens.{Token}
 use Rattle.block_tokens.specs.Code.{Code, symbol_in, extra_in, bits_in}
+use Rattle.least_cost.specs.Position.{nz}
+use Rattle.packing.specs.declared.Split.{Split}
+use Rattle.scan.specs.Scan.{level_at}
 use Rattle.block_tokens.specs.Writing.{over, outputs, written}
-use Rattle.token_steps.proofs.Walk.{all_tokens, before, At}
+use Rattle.token_steps.specs.Steps.{tokens_in, count_token, level_token, SplitIn, StepAt}
+use Rattle.token_steps.specs.declared.Step.{Step}
+use Rattle.token_steps.specs.declared.coded.Coded.{Coded}
+use Rattle.token_steps.proofs.Walk.{before, At, Next, next, at_last, at-start, count-first}
 
 -- what an output holds when its first i numbers are written
 
@@ -77,12 +83,106 @@ pub record Filled (x : Code) (ts : List Token) (contexts₀ symbols₀ extra₀ 
   pub extra-are : extra ≡ up_to (map (extra_in x) ts) extra₀ i
   pub bits_are : bits ≡ up_to (map (bits_in x) ts) bits₀ i
 
--- what the second pass knows at scan position k
-pub record Writing (x : Code) (h : Shape) (scan : List ℕ) (levels : List ℤ) (contexts₀ symbols₀ extra₀ bits₀ contexts symbols extra bits : List ℕ) (i k prev left : ℕ) : Type 0 where
-  pub at : At h scan levels k prev left
-  pub index : i ≡ before h scan levels k
-  pub filled : Filled x (all_tokens h scan levels) contexts₀ symbols₀ extra₀ bits₀ contexts symbols extra bits i
+-- each output has room for n numbers
+pub record RoomFor (n : ℕ) (contexts symbols extra bits : List ℕ) : Type 0 where
+  pub contexts_long : n ≤ length contexts
+  pub symbols_long : n ≤ length symbols
+  pub extra_long : n ≤ length extra
+  pub bits_long : n ≤ length bits
 
+set-room : {n : ℕ} {contexts symbols extra bits : List ℕ} (v w y z : ℕ) → RoomFor n contexts symbols extra bits → RoomFor n (set contexts 0 v) (set symbols 0 w) (set extra 0 y) (set bits 0 z)
+set-room v w y z r =
+    record {
+      contexts_long = simp length-set r.contexts_long;
+      symbols_long = simp length-set r.symbols_long;
+      extra_long = simp length-set r.extra_long;
+      bits_long = simp length-set r.bits_long;
+    }
+
+-- what the second pass knows at scan position k
+pub record Writing (x : Code) (d : Coded) (contexts₀ symbols₀ extra₀ bits₀ contexts symbols extra bits : List ℕ) (i k prev left : ℕ) : Type 0 where
+  pub at : At d.layout.shape d.scan.now d.levels.now k prev left
+  pub index : i ≡ before d.layout.shape d.scan.now d.levels.now k
+  pub filled : Filled x (tokens_in d) contexts₀ symbols₀ extra₀ bits₀ contexts symbols extra bits i
+  pub room : RoomFor (length (tokens_in d)) contexts₀ symbols₀ extra₀ bits₀
+
+-- with the count's token written
+module _ (d : Coded) where
+  pub some-token : 1 ≤ length (tokens_in d)
+  some-token = omega (arith, ap length (count-first d))
+
+  pub begun : (x : Code) {contexts symbols extra bits : List ℕ} (prev : ℕ) {r : Split} → SplitIn x (count_token d) r → RoomFor (length (tokens_in d)) contexts symbols extra bits
+      → prev ≡ cond (leb d.count (64 * d.layout.covered / 16)) 1 0
+      → (let contexts₁ = set contexts 0 d.layout.count_context in let symbols₁ = set symbols 0 r.symbol in let extra₁ = set extra 0 r.extra_bits in let bits₁ = set bits 0 r.bits in
+      Writing x d contexts₁ symbols₁ extra₁ bits₁ contexts₁ symbols₁ extra₁ bits₁ 1 d.layout.covered prev d.count)
+  begun x {contexts} {symbols} {extra} {bits} prev split room e =
+      record {
+        at = at-start d prev e;
+        index = omega (arith, d.layout.laid.covered_is);
+        filled = record {
+          contexts-are = first (λ t. t.context) _ contexts _ (count-first d) d.layout.laid.count_is room.contexts_long;
+          symbols-are = first (symbol_in x) _ symbols _ (count-first d) split.symbol_is room.symbols_long;
+          extra-are = first (extra_in x) _ extra _ (count-first d) split.extra_is room.extra_long;
+          bits_are = first (bits_in x) _ bits _ (count-first d) split.bits_are room.bits_long;
+        };
+        room = set-room _ _ _ _ room;
+      }
+
+-- at scan position k
+module _ {x : Code} {d : Coded} {contexts₀ symbols₀ extra₀ bits₀ contexts symbols extra bits : List ℕ} {i k prev left : ℕ} (w : Writing x d contexts₀ symbols₀ extra₀ bits₀ contexts symbols extra bits i k prev left) where
+  passed : i ≤ length (tokens_in d)
+  passed = omega (arith, w.index, w.at.passed)
+
+  -- the outputs keep their lengths
+  contexts-kept : length contexts ≡ length contexts₀
+  contexts-kept = long (λ t. t.context) (tokens_in d) _ _ i w.filled.contexts-are passed w.room.contexts_long
+
+  symbols-kept : length symbols ≡ length symbols₀
+  symbols-kept = long (symbol_in x) (tokens_in d) _ _ i w.filled.symbols-are passed w.room.symbols_long
+
+  extra-kept : length extra ≡ length extra₀
+  extra-kept = long (extra_in x) (tokens_in d) _ _ i w.filled.extra-are passed w.room.extra_long
+
+  bits-kept : length bits ≡ length bits₀
+  bits-kept = long (bits_in x) (tokens_in d) _ _ i w.filled.bits_are passed w.room.bits_long
+
+  module _ (some : 0 < left) where
+    pub onward : Next d.layout.shape d.scan.now d.levels.now k prev left
+    onward = next d.layout.shape d.scan.now d.levels.now k prev left w.at some
+
+    -- there is room for a token more
+    pub room-on : RoomFor (suc i) contexts symbols extra bits
+    room-on =
+        let below : i < length (tokens_in d) = omega (arith, onward.there.passed, w.index, w.at.from) in
+        record {
+          contexts_long = omega (arith, below, w.room.contexts_long, contexts-kept);
+          symbols_long = omega (arith, below, w.room.symbols_long, symbols-kept);
+          extra_long = omega (arith, below, w.room.extra_long, extra-kept);
+          bits_long = omega (arith, below, w.room.bits_long, bits-kept);
+        }
+
+    -- it is written
+    pub written-on : {r : Step} → StepAt x (level_token d.layout.shape d.scan.now d.levels.now k left prev) (level_at d.scan.now d.levels.now k) r
+        → Writing x d contexts₀ symbols₀ extra₀ bits₀ (set contexts i r.context) (set symbols i r.symbol) (set extra i r.extra_bits) (set bits i r.bits) (i + 1) (k + 1) (nz (level_at d.scan.now d.levels.now k)) (left - nz (level_at d.scan.now d.levels.now k))
+    written-on step =
+        let token = ap (λ (j : ℕ). drop j (tokens_in d)) w.index ∙ onward.token in
+        let f = w.filled in
+        record {
+          at = onward.there;
+          index = omega (arith, w.index, w.at.from);
+          filled = record {
+            contexts-are = more (λ t. t.context) _ _ _ _ _ f.contexts-are token step.context_is w.room.contexts_long;
+            symbols-are = more (symbol_in x) _ _ _ _ _ f.symbols-are token step.symbol_is w.room.symbols_long;
+            extra-are = more (extra_in x) _ _ _ _ _ f.extra-are token step.extra_is w.room.extra_long;
+            bits_are = more (bits_in x) _ _ _ _ _ f.bits_are token step.bits_are w.room.bits_long;
+          };
+          room = w.room;
+        }
+
+  pub number : left ≤ 0 → i ≡ length (tokens_in d)
+  number none = sym (at_last _ _ _ _ _ _ w.at none ∙ sym w.index)
+
+-- all tokens are written
 pub four : (x : Code) (ts : List Token) (contexts₀ symbols₀ extra₀ bits₀ contexts symbols extra bits : List ℕ) (v w y z i : ℕ)
     → Filled x ts (set contexts₀ 0 v) (set symbols₀ 0 w) (set extra₀ 0 y) (set bits₀ 0 z) contexts symbols extra bits i → length ts ≡ i → 1 ≤ i
     → outputs contexts symbols extra bits ≡ written x ts (outputs contexts₀ symbols₀ extra₀ bits₀)
@@ -94,3 +194,10 @@ four x ts contexts₀ symbols₀ extra₀ bits₀ contexts symbols extra bits v 
       last (extra_in x) ts extra extra₀ y i f.extra-are n some,
       last (bits_in x) ts bits bits₀ z i f.bits_are n some,
     )
+
+pub all-written : {x : Code} {d : Coded} (contexts₀ symbols₀ extra₀ bits₀ : List ℕ) (v w y z : ℕ) {contexts symbols extra bits : List ℕ} {i k prev left : ℕ}
+    → Writing x d (set contexts₀ 0 v) (set symbols₀ 0 w) (set extra₀ 0 y) (set bits₀ 0 z) contexts symbols extra bits i k prev left → left ≤ 0
+    → outputs contexts symbols extra bits ≡ written x (tokens_in d) (outputs contexts₀ symbols₀ extra₀ bits₀)
+all-written {x} {d} contexts₀ symbols₀ extra₀ bits₀ v w y z W none =
+    let all = at_last _ _ _ _ _ _ W.at none in
+    four x (tokens_in d) contexts₀ symbols₀ extra₀ bits₀ _ _ _ _ _ _ _ _ _ W.filled (all ∙ sym W.index) (omega (arith, W.index, W.at.from))

@@ -1,9 +1,10 @@
 -- What the writer answers, test by test. Assumes nothing.
-use Prim.Native.Nat.{ℕ}
+use Prim.Native.Nat.{ℕ, min}
+use native.Mathlib.Omega.{arith}
 use mathlib.Core.Path.{◌≡◌, refl, ap}
 use mathlib.Core.Bool.{Bool, true, false, cond, ◌&&◌}
 use mathlib.Core.List.{List, [], ◌∷◌}
-use borrow.Author.Tests.{leb-true}
+use borrow.Author.Tests.{leb-true, leb-false, le-leb, lt-leb}
 use lib.Dec.{eqb, leb}
 use lib.IntN.{ℤ}
 use lib.ListN.{length}
@@ -11,20 +12,20 @@ use Rattle.block.specs.declared.Shape.{Shape}
 use Rattle.laws.proofs.Refused.{passes-first}
 use Rattle.laws.proofs.Tests.{and_left, and_right}
 use Rattle.laws.specs.Refusals.{first_refused}
-use Rattle.block_tokens.specs.declared.Reply.TheVariants.{Tokens, Refused}
+use Rattle.block_tokens.specs.Reply.{Tokens, Refused}
 use Rattle.block_tokens.specs.Tokens.{Token, block_tokens}
 use Rattle.block_tokens.specs.Code.{Code}
 use Rattle.block_tokens.specs.Writing.{Outputs, outputs, written, all_within, all_coded, room_for, write_checks, wrote, write_result}
+use Rattle.token_write.proofs.Filled.{RoomFor}
 use Rattle.token_bounds.specs.Bounds.{levels_refusal}
-use Rattle.token_write.specs.Room.{RoomFor}
 
 module _ (x : Code) (h : Shape) (qs : List ℤ) (o : Outputs) where
   abbrev ts : List Token
   ts = block_tokens h qs
 
-  pub refused : (n : ℕ) → n ≡ levels_refusal x h qs → (n ≡ 0 → ⊥) → wrote (Refused n) o ≡ write_result x h qs o
+  pub refused : {n : ℕ} → n ≡ levels_refusal x h qs → (n ≡ 0 → ⊥) → wrote (Refused n) o ≡ write_result x h qs o
   unfolding levels_refusal write_result write_checks first_refused
-  refused n e some = go (all_within qs) (all_coded x ts) e
+  refused {n} e some = go (all_within qs) (all_coded x ts) e
     where
       go : (a b : Bool) → n ≡ cond a (cond b 0 20) 24
           → wrote (Refused n) o ≡ (let r = cond a (cond b (cond (room_for (length ts) o) 0 23) 20) 24 in cond (eqb r 0) (wrote (Tokens (length ts)) (written x ts o)) (wrote (Refused r) o))
@@ -52,6 +53,8 @@ module _ (x : Code) (h : Shape) (qs : List ℤ) (o : Outputs) where
     unfolding write_result write_checks first_refused
     done room r e = rw (p.small, p.coded, ← number, room, e)
 
+-- ---- room
+
 pub room_of : (n : ℕ) (contexts symbols extra bits : List ℕ) → room_for n (outputs contexts symbols extra bits) ≡ true → RoomFor n contexts symbols extra bits
 unfolding room_for
 room_of n contexts symbols extra bits e =
@@ -66,3 +69,21 @@ room_of n contexts symbols extra bits e =
       extra_long = leb-true _ _ (and_right (a && b) c abc);
       bits_long = leb-true _ _ (and_right (a && b && c) (leb n (length bits)) e);
     }
+
+leb-min : (n a b : ℕ) → leb n (min a b) ≡ (leb n a && leb n b)
+leb-min n a b = go (leb n a) (leb n b) refl refl
+  where
+    go : (p q : Bool) → leb n a ≡ p → leb n b ≡ q → leb n (min a b) ≡ (leb n a && leb n b)
+    go true true d e = rw (d, e) (le-leb n (min a b) (omega (arith, leb-true n a d, leb-true n b e)))
+    go true false d e = rw (d, e) (lt-leb n (min a b) (omega (arith, leb-true n a d, leb-false n b e)))
+    go false q d e = rw d (lt-leb n (min a b) (omega (arith, leb-false n a d)))
+
+-- the smallest output decides
+pub smallest : (n : ℕ) (contexts symbols extra bits : List ℕ)
+    → leb n (min (min (min (length contexts) (length symbols)) (length extra)) (length bits)) ≡ room_for n (outputs contexts symbols extra bits)
+unfolding room_for
+smallest n contexts symbols extra bits =
+    let a = length contexts in
+    let b = length symbols in
+    let c = length extra in
+    rw (leb-min n (min (min a b) c) (length bits), leb-min n (min a b) c, leb-min n a b)

@@ -1,5 +1,5 @@
 -- The whole call: each way it ends is the defined outcome. Assumes nothing.
-use mathlib.Core.Path.{◌≡◌, sym, ap, ◌∙◌, subst, subst⁻¹}
+use mathlib.Core.Path.{◌≡◌, ap, ◌∙◌, subst, subst⁻¹}
 use mathlib.Core.Bool.{true, false}
 use mathlib.Core.List.{List}
 use Prim.Native.Nat.{ℕ, ◌*◌, ◌≤◌}
@@ -11,13 +11,13 @@ use Rattle.block.specs.Block.{Block, covered}
 use Rattle.block.specs.Checks.{choice_bytes, states, search_refusal, enough_room}
 use Rattle.block.specs.Outcome.{Lent, Result, cleared, refused, result_of}
 use Rattle.block.specs.Answer.{Answer}
+use Rattle.block_checks.specs.declared.Asked.{Asked}
+use Rattle.block_checks.specs.declared.RoomLengths.{RoomLengths}
 use Rattle.prices.specs.Book.{Book}
-use Rattle.prices.proofs.Passed.{listed, by-lists}
-use Rattle.problem.proofs.Refusals.{searched}
 use Rattle.search_checks.proofs.Checked.{searched-of}
 use Rattle.search_checks.specs.Checked.{Checked}
 use Rattle.search_checks.proofs.Refusing.{room_of}
-use Rattle.steps.specs.declared.reading.Plan.{Plan}
+use Rattle.steps.specs.declared.plan.Plan.{Plan}
 use Rattle.weights.specs.Window.{window_for}
 use Rattle.weights.specs.declared.Window.{Window}
 use Rattle.weights.proofs.Lengths.{whole-window}
@@ -44,14 +44,16 @@ module _ (w : ℕ) (v : Window) (book : Book) (b : Block) (l : Lent) where
   unfolding searched_outcome cleared
   searched-banded a c cm r rn s sk = rw (a.0, a.1, c, cm, r, rn, s, sk)
 
-  pub by-check : {s : ℕ} → s ≡ choice_bytes w → {n : ℕ} → n ≡ search_refusal w v book b (enough_room s (2 * s) v.length (length l.choices) (length l.row_a) (length l.row_b)) → n ≡ refusal w v book b l
+  pub by-check : {a : Asked} → a ≡ record { bytes = choice_bytes w; floats = states w } → {r : RoomLengths} → r ≡ record { choices = length l.choices; row_a = length l.row_a; row_b = length l.row_b }
+      → {n : ℕ} → n ≡ search_refusal w v book b (enough_room a.bytes a.floats v.length r.choices r.row_a r.row_b) → n ≡ refusal w v book b l
   unfolding refusal
-  by-check e f = rw e at f
+  by-check e k f = rw (e, k) at f
 
 -- check 14
-pub roomy_of : (w : ℕ) (v : Window) (choices : List ℕ) (row_a row_b : List Float) {s : ℕ} → s ≡ choice_bytes w → enough_room s (2 * s) v.length (length choices) (length row_a) (length row_b) ≡ true → Roomy w v choices row_a row_b
-roomy_of w v choices row_a row_b {s} is e =
-    let r = room_of (choice_bytes w) (states w) v.length (length choices) (length row_a) (length row_b) (rw is at e) in
+pub roomy_of : (w : ℕ) (v : Window) (choices : List ℕ) (row_a row_b : List Float) {a : Asked} → a ≡ record { bytes = choice_bytes w; floats = states w } → {r : RoomLengths}
+    → r ≡ record { choices = length choices; row_a = length row_a; row_b = length row_b } → enough_room a.bytes a.floats v.length r.choices r.row_a r.row_b ≡ true → Roomy w v choices row_a row_b
+roomy_of w v choices row_a row_b e k held =
+    let r = room_of (choice_bytes w) (states w) v.length (length choices) (length row_a) (length row_b) (rw (e, k) at held) in
     record { first = r.0; second = r.1.0; choices_long = r.1.1 }
 
 pub room-kept : {w : ℕ} {v x : Window} {choices : List ℕ} {row_a row_b : List Float} → x ≡ v → Roomy w v choices row_a row_b → Roomy w x choices row_a row_b

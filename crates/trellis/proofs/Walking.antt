@@ -28,7 +28,7 @@ use Rattle.search_checks.proofs.Checked.{inner, first_bit, first_is, positions-c
 use Rattle.search_checks.proofs.Writing.{WrittenTo, from-here, none_written, offer-level, offer-listed, more-written}
 use Rattle.steps.proofs.Zero.{handed-back, level-back}
 use Rattle.steps.specs.Plan.{Planned, Lists, Offered, Usable, listed}
-use Rattle.steps.specs.declared.reading.Plan.{Plan}
+use Rattle.steps.specs.declared.plan.Plan.{Plan}
 use Rattle.steps.specs.declared.reading.Offer.{Offer}
 use Rattle.trellis_table.specs.Rows.{least_count, Rowable}
 use Rattle.trellis.specs.Walk.{Walkable, walked}

@@ -1,6 +1,6 @@
 -- What the whole search hands to its steps. Assumes nothing.
 use mathlib.Core.Path.{◌≡◌, sym, ap, ap₂, ◌∙◌, subst⁻¹}
-use mathlib.Core.Bool.{Bool, true, false, cond}
+use mathlib.Core.Bool.{Bool, true, false}
 use mathlib.Core.List.{List}
 use Prim.Native.Nat.{ℕ, ◌+◌, ◌-◌, ◌≤◌}
 use native.Mathlib.Nat.{add-zero}
@@ -26,8 +26,10 @@ use Rattle.search_checks.specs.Checked.{positions, Checked, Searched}
 use Rattle.search_checks.proofs.Checked.{remaining-few, window-some}
 use Rattle.search_checks.specs.Start.{Starts}
 use Rattle.search_checks.specs.declared.start.Start.{Start}
-use Rattle.steps.specs.declared.reading.Plan.{Plan}
-use Rattle.trellis_table.specs.Rows.{RowAt, Rowed, FirstRow, TailFor, TailRow}
+use Rattle.steps.specs.declared.plan.Plan.{Plan}
+use Rattle.trellis_table.specs.Rows.{RowAt, Rowed, FirstRow, TailFor, TailRow, live_of}
+use Rattle.trellis_table.specs.declared.exchange.Live.{Live}
+use Rattle.trellis_table.specs.declared.exchange.Live.TheVariants.{First, Second}
 use Rattle.trellis_table.specs.declared.position.Step.{Step}
 use Rattle.weights.specs.declared.Window.{Window}
 use Rattle.trellis.specs.Walk.{walked, Walkable, Done}
@@ -37,9 +39,10 @@ use Rattle.trellis.specs.declared.search.Found.{Found}
 pub still-long : {k m n : ℕ} → m ≡ n → k ≤ n → k ≤ m
 still-long e h = rw e h
 
-live-long : (k : ℕ) (t : Bool) (a b live : List Float) → live ≡ cond t a b → k ≤ length a → k ≤ length b → k ≤ length live
-live-long k true a b live e h l = rw e h
-live-long k false a b live e h l = rw e l
+live-long : (k : ℕ) (t : Live) (a b live : List Float) → live ≡ live_of t a b → k ≤ length a → k ≤ length b → k ≤ length live
+unfolding live_of
+live-long k First a b live e h l = rw e h
+live-long k Second a b live e h l = rw e l
 
 -- what the positions are handed
 abbrev pub tail-for : {book : Book} {scan : List ℕ} {source inverse : List Float} {levels : List ℤ} {p : Plan} (s : Searched book scan source inverse levels p) {start : Start} {first : List Float}
@@ -47,7 +50,7 @@ abbrev pub tail-for : {book : Book} {scan : List ℕ} {source inverse : List Flo
 tail-for s t r = record { searched = s; past_is = t.past_is; row_is = r }
 
 -- the row handed back is the live one
-module _ {hw : ℕ} {v : Window} {book : Book} {b : Block} {first second : List Float} {choices : List ℕ} {s : Step} {t : Bool} (R : Rowed hw v book b 0 first second choices s t) {live : List Float} (e : live ≡ cond t first second) where
+module _ {hw : ℕ} {v : Window} {book : Book} {b : Block} {first second : List Float} {choices : List ℕ} {s : Step} {t : Live} (R : Rowed hw v book b 0 first second choices s t) {live : List Float} (e : live ≡ live_of t first second) where
   pub live-stands : RowAt hw v book b 0 live s.counts
   live-stands = subst⁻¹ (λ (row : List Float). RowAt hw v book b 0 row s.counts) e R.live
 
@@ -56,7 +59,7 @@ module _ {hw : ℕ} {v : Window} {book : Book} {b : Block} {first second : List 
 
 -- the last step's row
 abbrev pub first-row : {hw : ℕ} {book : Book} {scan : List ℕ} {source inverse : List Float} {levels : List ℤ} {p : Plan} (s : Searched book scan source inverse levels p) → hw ≤ 12
-    → {first second : List Float} {choices : List ℕ} {step : Step} {t : Bool} → Rowed hw p.window book s.block 0 first second choices step t → {live : List Float} → live ≡ cond t first second
+    → {first second : List Float} {choices : List ℕ} {step : Step} {t : Live} → Rowed hw p.window book s.block 0 first second choices step t → {live : List Float} → live ≡ live_of t first second
     → states hw ≤ length first → states hw ≤ length second → FirstRow book p live step.counts
 first-row {hw} s narrow R e h l =
     record {

@@ -8,7 +8,7 @@ use Rattle.block.specs.Cost.{first_prev}
 use Rattle.least_cost.specs.Search.{best, walk, least_total, least_count}
 use Rattle.prices.specs.Book.{Book}
 use Rattle.search_checks.specs.Checked.{positions, Searched}
-use Rattle.steps.specs.declared.reading.Plan.{Plan}
+use Rattle.steps.specs.declared.plan.Plan.{Plan}
 use Rattle.trellis_table.specs.Rows.{ChosenFrom}
 use Rattle.weights.specs.declared.Window.{Window}
 use Rattle.trellis.specs.declared.search.Found.{Found}

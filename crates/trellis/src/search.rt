@@ -18,7 +18,8 @@ use prices::book::PriceBook;
 use refusals::Refusal;
 use search_checks::start;
 use search_checks::start::Start;
-use steps::reading::Plan;
+use steps::plan::Plan;
+use trellis_table::position::Walk;
 use trellis_table::{count, exchange};
 
 // The least cost and its count, and the nonzero input levels past the window and from its first position on.
@@ -53,16 +54,7 @@ pub(crate) fn write_found(
     ensures { (d : Done width block.now.scan.now block.now.source.now block.now.inv_qm.now levels.old plan choices.now found) → (answer_of result ≡ answered width plan.window d.book d.searched.block) × (levels.new ≡ written width plan.window d.book d.searched.block) }
 {
     if found.cost < costs::infinity() {
-        walk::write_levels(
-            block,
-            levels,
-            plan,
-            found.past,
-            found.nonzeros,
-            choices,
-            found.count,
-            width,
-        );
+        walk::write_levels(block, levels, plan, choices, found, width);
         return Ok(Picked {
             cost: Some(found.cost),
             count: found.count as u32,
@@ -73,7 +65,7 @@ pub(crate) fn write_found(
 
 // The search of a block that passed its checks.
 pub(crate) fn search(
-    factored: bool,
+    walk: Walk,
     book: &PriceBook,
     block: &BlockData,
     levels: &[i32],
@@ -92,10 +84,10 @@ pub(crate) fn search(
     let past = start.past;
     start_row(start, row_a);
     let last = exchange::take_positions(
-        factored, book, block, levels, plan, past, row_a, row_b, choices, width,
+        walk, book, block, levels, plan, past, row_a, row_b, choices, width,
     );
     let step = last.step;
-    let live = exchange::live_row(row_a, row_b, last.in_first);
+    let live = exchange::live_row(last.live, row_a, row_b);
     let best = count::best_count(book, plan, live, step.counts);
     Found {
         cost: best.cost,

@@ -6,8 +6,9 @@ ghost use Rattle.half_bytes.specs.Packed.{unpacked};
 ghost use Rattle.scan.specs.Scan.{put};
 ghost use Rattle.trellis.specs.Walk.{Walkable, walked};
 
+use crate::search::Found;
 use block::BlockData;
-use steps::reading::Plan;
+use steps::plan::Plan;
 use trellis_table::position;
 
 // The choice at a position, for `left` remaining and `prev`, where there is one.
@@ -23,33 +24,31 @@ fn choice_at(
     requires least_le_left { (least ≤ left) × ((left ≤ least + (2 * width + 1)) × ((prev ≤ 1) × (width ≤ 12))) }
     ensures { let choice = get_or (unpacked choices.now) (2 * (choice_bytes width * i) + (2 * (left - least) + prev)) 0 in choice ≤ 14 → result ≡ choice }
 {
-    half_bytes::half(choices, (2 * width + 2) * i + (left - least), prev) as usize
+    usize::from(half_bytes::half(choices, (2 * width + 2) * i + (left - least), prev))
 }
 
-// `nonzeros` counts the input's from the first position on, `count` those that the walk leaves.
+// Of a search that found a finite cost.
 pub(crate) fn write_levels(
     block: &BlockData,
     levels: &mut [i32],
     plan: Plan,
-    past: usize,
-    nonzeros: usize,
     choices: &[u8],
-    count: usize,
+    found: Found,
     width: usize,
 )
-    requires { Walkable width block.now.scan.now block.now.source.now block.now.inv_qm.now levels.old plan past nonzeros choices.now count }
-    ensures { (w : Walkable width block.now.scan.now block.now.source.now block.now.inv_qm.now levels.old plan past nonzeros choices.now count) → levels.new ≡ put block.now.scan.now (walked width plan.window w.book w.searched.block count) (covered w.searched.block) plan.window.length levels.old }
+    requires { Walkable width block.now.scan.now block.now.source.now block.now.inv_qm.now levels.old plan found.past found.nonzeros choices.now found.count }
+    ensures { (w : Walkable width block.now.scan.now block.now.source.now block.now.inv_qm.now levels.old plan found.past found.nonzeros choices.now found.count) → levels.new ≡ put block.now.scan.now (walked width plan.window w.book w.searched.block found.count) (covered w.searched.block) plan.window.length levels.old }
 {
     let window = plan.window;
     let covered = plan.covered;
-    let mut prev = steps::tokens::first_prev(covered, count);
-    let mut left = count;
-    let mut after = nonzeros;
+    let mut prev = steps::tokens::first_prev(covered, found.count);
+    let mut left = found.count;
+    let mut after = found.nonzeros;
     let mut offered = [0i32; 5];
     for i in 0..window.length {
         let offer = plan.offer(block, levels, i, &mut offered);
         after -= steps::nonzero(offer.level);
-        let least = position::least_count(past, after, width);
+        let least = position::least_count(found.past, after, width);
         let level = offered[choice_at(choices, i, least, left, prev, width)];
         steps::write_level(block.scan, levels, covered + i, level);
         prev = steps::nonzero(level);

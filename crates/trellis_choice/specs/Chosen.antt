@@ -9,7 +9,7 @@ use Rattle.least_cost.specs.Position.{nz}
 use Rattle.least_cost.specs.Search.{least, holder, nonzeros, has_zero}
 use Rattle.trellis_choice.specs.Locals.{Each, FirstLeast}
 use Rattle.trellis_choice.specs.declared.locals.Least.{Least}
-use Rattle.trellis_choice.specs.declared.chosen.Chosen.{Chosen}
+use Rattle.steps.specs.declared.best.Best.{Best}
 
 -- a local cost with what follows
 abbrev pub with : (ℤ → Float) → Float → ℤ → Float
@@ -43,7 +43,7 @@ pub record ZeroAt (levels : List ℤ) (i : ℕ) : Type 0 where
   pub zero : has_zero levels ≡ true → get_or levels i (pos 0) ≡ pos 0
 
 -- the state's cost, and where it is finite the index of its level, else 255
-pub record Settled (g : ℤ → Float) (x z : Float) (levels : List ℤ) (r : Chosen) : Type 0 where
+pub record Settled (g : ℤ → Float) (x z : Float) (levels : List ℤ) (r : Best ℕ) : Type 0 where
   pub cost : r.cost ≡ state_cost g x z levels
   pub level : T (finite r.cost) → get_or levels r.choice (pos 0) ≡ state_level g x z levels
   pub below : T (finite r.cost) → r.choice < length levels

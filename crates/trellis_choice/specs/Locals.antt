@@ -2,7 +2,7 @@
 use Rattle.std.specs.Prelude.{ℕ, ◌≡◌, true, false, cond, List, ℤ, pos, get_or, Float, eqb}
 use Rattle.std.specs.Float.{inf}
 use Rattle.std.specs.Float.Ieee.{lt}
-pub use Rattle.steps.specs.Plan.{listed, Usable, Each}
+pub use Rattle.steps.specs.Plan.{Pickable, Each}
 use Rattle.least_cost.specs.Position.{nz}
 use Rattle.least_cost.specs.Search.{least, holder, nonzeros, has_zero}
 use Rattle.least_cost.specs.Factored.{runner_up}

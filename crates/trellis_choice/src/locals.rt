@@ -1,12 +1,12 @@
 // Local costs, worked out once for all counts that share a context.
 ghost use Rattle.std.specs.Prelude.{◌≡◌, ◌+◌, ◌<◌, length};
-ghost use Rattle.candidates.specs.Candidates.{in_array};
 ghost use Rattle.prices.specs.Contents.{contents};
 ghost use Rattle.steps.specs.Place.{distortion_at, local_in};
-ghost use Rattle.trellis_choice.specs.Locals.{listed, Usable, nothing, considered, noted, Empty, Each, Located};
+ghost use Rattle.trellis_choice.specs.Locals.{nothing, considered, noted, Empty, Each, Located};
 
 use prices::book::PriceBook;
 use steps::Place;
+use steps::reading::CandidateList;
 
 // The first least of some costs, what it took the place of, and its candidate's index.
 #[derive(Clone, Copy)]
@@ -26,6 +26,7 @@ pub struct Locals {
 }
 
 impl Least {
+    #[tactic(auto, unfolding(crate::specs::Locals::nothing))]
     fn none() -> Least
         ensures { result ≡ nothing }
     {
@@ -36,6 +37,7 @@ impl Least {
         }
     }
 
+    #[tactic(auto, unfolding(crate::specs::Locals::considered))]
     fn consider(self, cost: f32, choice: u8) -> Least
         ensures { result ≡ considered self cost choice }
     {
@@ -89,24 +91,22 @@ impl Locals {
 pub fn locals_in(
     book: &PriceBook,
     place: Place,
-    levels: &[i32; 5],
-    count: usize,
+    candidates: &CandidateList,
     distortion: &[f32; 5],
     context: usize,
     first: &mut [f32; 5],
     second: &mut [f32; 5],
 ) -> Locals
     requires context_bound { context + 1 < 14850 }
-    requires usable { Usable (in_array count levels.now) }
-    requires each { Each (distortion_at place) (listed (in_array count levels.now)) distortion.now }
+    requires each { Each (distortion_at place) candidates.now.levels.now distortion.now }
     requires first_len { (length first.old ≡ 5) × (length second.old ≡ 5) }
     ensures located { Located (local_in (contents book.now) place context 0)
         (local_in (contents book.now) place context 1)
-        (listed (in_array count levels.now)) first.new second.new result }
+        candidates.now.levels.now first.new second.new result }
     ensures lengths_kept { (length first.new ≡ 5) × (length second.new ≡ 5) }
 {
     let mut locals = Locals::none();
-    for (j, &level) in levels[..count].iter().enumerate() {
+    for (j, &level) in candidates.levels.iter().enumerate() {
         let pair = place.local_pair(book, context, level, distortion[j]);
         first[j] = pair.first;
         second[j] = pair.second;

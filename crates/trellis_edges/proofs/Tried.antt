@@ -14,7 +14,6 @@ use lib.ListN.{length, get_or, set, take, length-set}
 use lib.Seq.{get_or-set_same, get_or-set_other, take-suc, take-length}
 use lib.Ieee.{Float, nan, inf, lt, add, binary32}
 use borrow.Author.Tests.{eqb-true, eqb-false, ltb-true, ltb-false, leb-true, le-leb, lt-leb}
-use Rattle.candidates.specs.declared.Candidates.{Candidates}
 use Rattle.costs.specs.Cost.{cost}
 use Rattle.costs.proofs.Sum.{add-inf}
 use Rattle.least_cost.specs.Position.{nz}
@@ -23,7 +22,6 @@ use Rattle.prices.specs.Book.{Book}
 use Rattle.steps.specs.Place.{context_at, local_in, local_at}
 use Rattle.steps.specs.declared.Place.{Place}
 use Rattle.trellis_choice.specs.Chosen.{with, state_cost, state_level}
-use Rattle.trellis_choice.specs.Locals.{listed}
 use Rattle.trellis_choice.proofs.Noting.{zero_is, nz-one}
 use Rattle.trellis_row.specs.Row.{tail_at, nonzero_tail, zero_tail, row_cost, row_level, EntryIs, RowIs, Elsewhere, Workable}
 use Rattle.trellis_row.specs.declared.row.Span.{Span}
@@ -148,52 +146,52 @@ module _ (book : Book) (x : Place) (levels : List ℤ) (next : List Float) (s : 
       let second : 2 * (r - least) + p ≡ 2 * (n - least) + 1 → ⊥ = λ z. differs (omega arith) in
       updated-other room space k (Held (local_at book x r p) (nonzero_tail next s r) (zero_tail levels next s r) levels ns zs) (2 * (r - least) + p) first second v
 
-module _ {book : Book} {x : Place} {c : Candidates} {next : List Float} {s : Span} {most : ℕ} (w : Workable book x c next s most) {least at : ℕ} {row : List Float} {choices : List ℕ} where
+module _ {book : Book} {x : Place} {levels : List ℤ} {next : List Float} {s : Span} {most : ℕ} (w : Workable book x levels next s most) {least at : ℕ} {row : List Float} {choices : List ℕ} where
   -- ---- no edge yet
   module _ (k : Cleared at (2 * (most + 1 - least)) row choices) where
-    none_tried : (r p : ℕ) → least ≤ r → r ≤ most → p ≤ 1 → StateIs book x (listed c) next s least at row choices r p [] []
+    none_tried : (r p : ℕ) → least ≤ r → r ≤ most → p ≤ 1 → StateIs book x levels next s least at row choices r p [] []
     none_tried r p low high P = let h : 2 * (r - least) + p < 2 * (most + 1 - least) = omega arith in held_none _ _ _ _ (k.costs _ h) (k.marks _ h)
 
-    nonzeros-early : (r p : ℕ) → least ≤ r → r ≤ most → p ≤ 1 → r ≤ s.from → StateIs book x (listed c) next s least at row choices r p (listed c) []
+    nonzeros-early : (r p : ℕ) → least ≤ r → r ≤ most → p ≤ 1 → r ≤ s.from → StateIs book x levels next s least at row choices r p levels []
     nonzeros-early r p low high P h =
         held-dead-nonzeros (λ q m. w.locals r p q high P m) (nonzero-dead next s r (λ k. tail-early next s (r - 1) 1 (omega arith))) (none_tried r p low high P)
 
-    pub tried-none : Tried book x (listed c) next s least most at s.from 0 row choices
+    pub tried-none : Tried book x levels next s least most at s.from 0 row choices
     tried-none =
         record {
           done = λ r p low high P h.
-              held-dead-zero (λ q m. w.locals r p q high P m) (zero-dead next s r (listed c) (tail-early next s r 0 h)) (nonzeros-early r p low high P (omega arith));
+              held-dead-zero (λ q m. w.locals r p q high P m) (zero-dead next s r levels (tail-early next s r 0 h)) (nonzeros-early r p low high P (omega arith));
           here = λ p low high P. nonzeros-early s.from p low high P (omega arith);
           next_one = λ p low high P. none_tried (s.from + 1) p low high P;
           above = λ r p low high P h. none_tried r p low high P;
         }
 
   -- ---- an edge more
-  module _ {n j : ℕ} (J : j < length (listed c)) (t : Tried book x (listed c) next s least most at n j row choices) where
-    grown : take (j + 1) (listed c) ≡ take j (listed c) ++ (get_or (listed c) j (pos 0) ∷ [])
-    grown = ap (λ (k : ℕ). take k (listed c)) (add-one j) ∙ take-suc (listed c) j (pos 0) J
+  module _ {n j : ℕ} (J : j < length levels) (t : Tried book x levels next s least most at n j row choices) where
+    grown : take (j + 1) levels ≡ take j levels ++ (get_or levels j (pos 0) ∷ [])
+    grown = ap (λ (k : ℕ). take k levels) (add-one j) ∙ take-suc levels j (pos 0) J
 
-    local-cost : (r p : ℕ) → r ≤ most → p ≤ 1 → T (cost (local_at book x r p (get_or (listed c) j (pos 0))))
-    local-cost r p high P = w.locals r p _ high P (mem-at (listed c) j J)
+    local-cost : (r p : ℕ) → r ≤ most → p ≤ 1 → T (cost (local_at book x r p (get_or levels j (pos 0))))
+    local-cost r p high P = w.locals r p _ high P (mem-at levels j J)
 
     -- over a nonzero level
-    module _ (one : nz (get_or (listed c) j (pos 0)) ≡ 1) where
-      here-stays : (p : ℕ) → least ≤ n → n ≤ most → p ≤ 1 → StateIs book x (listed c) next s least at row choices n p (listed c) (take (j + 1) (listed c))
+    module _ (one : nz (get_or levels j (pos 0)) ≡ 1) where
+      here-stays : (p : ℕ) → least ≤ n → n ≤ most → p ≤ 1 → StateIs book x levels next s least at row choices n p levels (take (j + 1) levels)
       here-stays p low high P = rw grown (held-no-other _ one (t.here p low high P))
 
-      nonzero-sum : (p : ℕ) → with (local_at book x (n + 1) p) (tail_at next s n 1) (get_or (listed c) j (pos 0)) ≡ with (local_at book x (n + 1) p) (nonzero_tail next s (n + 1)) (get_or (listed c) j (pos 0))
+      nonzero-sum : (p : ℕ) → with (local_at book x (n + 1) p) (tail_at next s n 1) (get_or levels j (pos 0)) ≡ with (local_at book x (n + 1) p) (nonzero_tail next s (n + 1)) (get_or levels j (pos 0))
       nonzero-sum p = rw (nonzero_follows next s n)
 
       abbrev NextHeld : ℕ → Float → ℕ → Type 0
-      NextHeld p = Held (local_at book x (n + 1) p) (nonzero_tail next s (n + 1)) (zero_tail (listed c) next s (n + 1)) (listed c) (take (j + 1) (listed c)) []
+      NextHeld p = Held (local_at book x (n + 1) p) (nonzero_tail next s (n + 1)) (zero_tail levels next s (n + 1)) levels (take (j + 1) levels) []
 
       next_grows : (p : ℕ) → least ≤ n + 1 → n + 1 ≤ most → p ≤ 1
-          → let u = with (local_at book x (n + 1) p) (nonzero_tail next s (n + 1)) (get_or (listed c) j (pos 0)) in
+          → let u = with (local_at book x (n + 1) p) (nonzero_tail next s (n + 1)) (get_or levels j (pos 0)) in
           let v = get_or row (2 * (n + 1 - least) + p) nan in
           NextHeld p (lesser u v) (choice_of u v j (get_or choices (at + (2 * (n + 1 - least) + p)) 0))
       next_grows p low high P = rw grown (held-nonzero j J _ one refl (local-cost (n + 1) p high P) (nonzero-tail-cost w (n + 1)) (t.next_one p low high P))
 
-      pub skip-nonzero : (least ≤ n + 1 → n + 1 ≤ most → tail_at next s n 1 ≡ inf false) → Tried book x (listed c) next s least most at n (j + 1) row choices
+      pub skip-nonzero : (least ≤ n + 1 → n + 1 ≤ most → tail_at next s n 1 ≡ inf false) → Tried book x levels next s least most at n (j + 1) row choices
       skip-nonzero dead =
           record {
             done = t.done;
@@ -204,11 +202,11 @@ module _ {book : Book} {x : Place} {c : Candidates} {next : List Float} {s : Spa
           }
 
       pub edge-nonzero : {u y : Float} {row' : List Float} {choices' : List ℕ} → least ≤ n + 1 → n + 1 ≤ most
-          → u ≡ with (local_at book x (n + 1) 0) (tail_at next s n 1) (get_or (listed c) j (pos 0)) → y ≡ with (local_at book x (n + 1) 1) (tail_at next s n 1) (get_or (listed c) j (pos 0))
+          → u ≡ with (local_at book x (n + 1) 0) (tail_at next s n 1) (get_or levels j (pos 0)) → y ≡ with (local_at book x (n + 1) 1) (tail_at next s n 1) (get_or levels j (pos 0))
           → 2 * (n + 1 - least) + 1 < length row → at + 2 * (n + 1 - least) + 1 < length choices → Updated at (2 * (n + 1 - least)) j u y row row' choices choices'
-          → Tried book x (listed c) next s least most at n (j + 1) row' choices'
+          → Tried book x levels next s least most at n (j + 1) row' choices'
       edge-nonzero {row' = row'} {choices' = choices'} low high e f room space k =
-          let other = other-count book x (listed c) next s low room space k in
+          let other = other-count book x levels next s low room space k in
           record {
             done = λ r p l h P b. other r p _ _ l P (λ z. absurd (omega arith)) (t.done r p l h P b);
             here = λ p l h P. other n p _ _ l P (λ z. absurd (omega arith)) (here-stays p l h P);
@@ -216,38 +214,38 @@ module _ {book : Book} {x : Place} {c : Candidates} {next : List Float} {s : Spa
             above = λ r p l h P b. other r p _ _ l P (λ z. absurd (omega arith)) (t.above r p l h P b);
           }
         where
-          go : (p : ℕ) → p ≤ 1 → StateIs book x (listed c) next s least at row' choices' (n + 1) p (take (j + 1) (listed c)) []
+          go : (p : ℕ) → p ≤ 1 → StateIs book x levels next s least at row' choices' (n + 1) p (take (j + 1) levels) []
           go zero P = updated-first room space k (NextHeld 0) (2 * (n + 1 - least) + 0) (omega arith) (e ∙ nonzero-sum 0) (next_grows 0 low high P)
           go (suc zero) P = updated-second room space k (NextHeld 1) (2 * (n + 1 - least) + 1) (omega arith) (f ∙ nonzero-sum 1) (next_grows 1 low high P)
           go (suc (suc p)) P = absurd (omega arith)
 
     -- over 0
-    module _ (none : nz (get_or (listed c) j (pos 0)) ≡ 0) where
-      level-zero : get_or (listed c) j (pos 0) ≡ pos 0
+    module _ (none : nz (get_or levels j (pos 0)) ≡ 0) where
+      level-zero : get_or levels j (pos 0) ≡ pos 0
       level-zero = zero_is _ none
 
-      zero-tail : zero_tail (listed c) next s n ≡ tail_at next s n 0
-      zero-tail = zero_follows next s n (listed c) (has-at (listed c) j J none)
+      zero-tail : zero_tail levels next s n ≡ tail_at next s n 0
+      zero-tail = zero_follows next s n levels (has-at levels j J none)
 
-      zero-sum : (p : ℕ) → with (local_at book x n p) (tail_at next s n 0) (get_or (listed c) j (pos 0)) ≡ with (local_at book x n p) (zero_tail (listed c) next s n) (pos 0)
+      zero-sum : (p : ℕ) → with (local_at book x n p) (tail_at next s n 0) (get_or levels j (pos 0)) ≡ with (local_at book x n p) (zero_tail levels next s n) (pos 0)
       zero-sum p = rw (level-zero, zero-tail)
 
       zero-cost : (r p : ℕ) → r ≤ most → p ≤ 1 → T (cost (local_at book x r p (pos 0)))
       zero-cost r p high P = rw level-zero at (local-cost r p high P)
 
-      next-stays : (p : ℕ) → least ≤ n + 1 → n + 1 ≤ most → p ≤ 1 → StateIs book x (listed c) next s least at row choices (n + 1) p (take (j + 1) (listed c)) []
+      next-stays : (p : ℕ) → least ≤ n + 1 → n + 1 ≤ most → p ≤ 1 → StateIs book x levels next s least at row choices (n + 1) p (take (j + 1) levels) []
       next-stays p low high P = rw grown (held-no-zero _ none (t.next_one p low high P))
 
       abbrev HereHeld : ℕ → Float → ℕ → Type 0
-      HereHeld p = Held (local_at book x n p) (nonzero_tail next s n) (zero_tail (listed c) next s n) (listed c) (listed c) (take (j + 1) (listed c))
+      HereHeld p = Held (local_at book x n p) (nonzero_tail next s n) (zero_tail levels next s n) levels levels (take (j + 1) levels)
 
       here-grows : (p : ℕ) → least ≤ n → n ≤ most → p ≤ 1
-          → let u = with (local_at book x n p) (zero_tail (listed c) next s n) (pos 0) in
+          → let u = with (local_at book x n p) (zero_tail levels next s n) (pos 0) in
           let v = get_or row (2 * (n - least) + p) nan in
           HereHeld p (lesser u v) (choice_of u v j (get_or choices (at + (2 * (n - least) + p)) 0))
-      here-grows p low high P = rw grown (held-zero j J _ none level-zero (zero-cost n p high P) (zero-tail-cost w (listed c) n) (t.here p low high P))
+      here-grows p low high P = rw grown (held-zero j J _ none level-zero (zero-cost n p high P) (zero-tail-cost w levels n) (t.here p low high P))
 
-      pub skip-zero : (least ≤ n → n ≤ most → tail_at next s n 0 ≡ inf false) → Tried book x (listed c) next s least most at n (j + 1) row choices
+      pub skip-zero : (least ≤ n → n ≤ most → tail_at next s n 0 ≡ inf false) → Tried book x levels next s least most at n (j + 1) row choices
       skip-zero dead =
           record {
             done = t.done;
@@ -257,11 +255,11 @@ module _ {book : Book} {x : Place} {c : Candidates} {next : List Float} {s : Spa
           }
 
       pub edge-zero : {u y : Float} {row' : List Float} {choices' : List ℕ} → least ≤ n → n ≤ most
-          → u ≡ with (local_at book x n 0) (tail_at next s n 0) (get_or (listed c) j (pos 0)) → y ≡ with (local_at book x n 1) (tail_at next s n 0) (get_or (listed c) j (pos 0))
+          → u ≡ with (local_at book x n 0) (tail_at next s n 0) (get_or levels j (pos 0)) → y ≡ with (local_at book x n 1) (tail_at next s n 0) (get_or levels j (pos 0))
           → 2 * (n - least) + 1 < length row → at + 2 * (n - least) + 1 < length choices → Updated at (2 * (n - least)) j u y row row' choices choices'
-          → Tried book x (listed c) next s least most at n (j + 1) row' choices'
+          → Tried book x levels next s least most at n (j + 1) row' choices'
       edge-zero {row' = row'} {choices' = choices'} low high e f room space k =
-          let other = other-count book x (listed c) next s low room space k in
+          let other = other-count book x levels next s low room space k in
           record {
             done = λ r p l h P b. other r p _ _ l P (λ z. absurd (omega arith)) (t.done r p l h P b);
             here = λ p l h P. go p P;
@@ -269,23 +267,23 @@ module _ {book : Book} {x : Place} {c : Candidates} {next : List Float} {s : Spa
             above = λ r p l h P b. other r p _ _ l P (λ z. absurd (omega arith)) (t.above r p l h P b);
           }
         where
-          go : (p : ℕ) → p ≤ 1 → StateIs book x (listed c) next s least at row' choices' n p (listed c) (take (j + 1) (listed c))
+          go : (p : ℕ) → p ≤ 1 → StateIs book x levels next s least at row' choices' n p levels (take (j + 1) levels)
           go zero P = updated-first room space k (HereHeld 0) (2 * (n - least) + 0) (omega arith) (e ∙ zero-sum 0) (here-grows 0 low high P)
           go (suc zero) P = updated-second room space k (HereHeld 1) (2 * (n - least) + 1) (omega arith) (f ∙ zero-sum 1) (here-grows 1 low high P)
           go (suc (suc p)) P = absurd (omega arith)
 
     -- ---- the same as the code has it: q is the level, o what it counts, and r the count that its edge leads to
-    module _ {q : ℤ} {o r : ℕ} (same : q ≡ get_or (listed c) j (pos 0)) (counts : o ≡ nz q) (to : r ≡ n + o) where
+    module _ {q : ℤ} {o r : ℕ} (same : q ≡ get_or levels j (pos 0)) (counts : o ≡ nz q) (to : r ≡ n + o) where
       abbrev Onward : List Float → List ℕ → Type 0
-      Onward row' choices' = Tried book x (listed c) next s least most at n (j + 1) row' choices'
+      Onward row' choices' = Tried book x levels next s least most at n (j + 1) row' choices'
 
-      by_level : {row' : List Float} {choices' : List ℕ} → (nz (get_or (listed c) j (pos 0)) ≡ 0 → o ≡ 0 → r ≡ n → Onward row' choices') → (nz (get_or (listed c) j (pos 0)) ≡ 1 → o ≡ 1 → r ≡ n + 1 → Onward row' choices') → Onward row' choices'
-      by_level {row'} {choices'} none one = go (eqb (nz (get_or (listed c) j (pos 0))) 0) refl
+      by_level : {row' : List Float} {choices' : List ℕ} → (nz (get_or levels j (pos 0)) ≡ 0 → o ≡ 0 → r ≡ n → Onward row' choices') → (nz (get_or levels j (pos 0)) ≡ 1 → o ≡ 1 → r ≡ n + 1 → Onward row' choices') → Onward row' choices'
+      by_level {row'} {choices'} none one = go (eqb (nz (get_or levels j (pos 0))) 0) refl
         where
-          counted : o ≡ nz (get_or (listed c) j (pos 0))
+          counted : o ≡ nz (get_or levels j (pos 0))
           counted = counts ∙ ap nz same
 
-          go : (b : Bool) → eqb (nz (get_or (listed c) j (pos 0))) 0 ≡ b → Onward row' choices'
+          go : (b : Bool) → eqb (nz (get_or levels j (pos 0))) 0 ≡ b → Onward row' choices'
           go true e = let k = eqb-true _ 0 e in none k (counted ∙ k) (omega (arith, counted ∙ k))
           go false e = let k = nz-one _ (eqb-false _ 0 e) in one k (counted ∙ k) (omega (arith, counted ∙ k))
 
@@ -298,7 +296,7 @@ module _ {book : Book} {x : Place} {c : Candidates} {next : List Float} {s : Spa
       pub dead : {tail none : Float} → tail ≡ tail_at next s n o → none ≡ inf false → lt tail none ≡ false → Onward row choices
       dead {tail} e i k =
           by_level
-          (λ none f g. skip-zero none (λ low high. infinite (subst (λ (y : Float). T (cost y)) (zero-tail none) (zero-tail-cost w (listed c) n)) (rw f at e)))
+          (λ none f g. skip-zero none (λ low high. infinite (subst (λ (y : Float). T (cost y)) (zero-tail none) (zero-tail-cost w levels n)) (rw f at e)))
           (λ one f g. skip-nonzero one (λ low high. infinite (subst (λ (y : Float). T (cost y)) (nonzero_follows next s n) (nonzero-tail-cost w (n + 1))) (rw f at e)))
         where
           infinite : {y : Float} → T (cost y) → tail ≡ y → y ≡ inf false
@@ -314,7 +312,7 @@ module _ {book : Book} {x : Place} {c : Candidates} {next : List Float} {s : Spa
           (λ one h l. edge-nonzero one (rw l at low) (rw l at high) (rw (f, k, l, same, e, h)) (rw (g, k, l, same, e, h)) (rw l at room) (rw l at space) (rw l at u))
 
   -- ---- all edges from count n
-  pub tried-next : {n j : ℕ} → length (listed c) ≡ j → Tried book x (listed c) next s least most at n j row choices → Tried book x (listed c) next s least most at (n + 1) 0 row choices
+  pub tried-next : {n j : ℕ} → length levels ≡ j → Tried book x levels next s least most at n j row choices → Tried book x levels next s least most at (n + 1) 0 row choices
   tried-next {n} {j} e t =
       record {
         done = λ r p low high P h. go r p low high P h (eqb r n) refl;
@@ -323,31 +321,31 @@ module _ {book : Book} {x : Place} {c : Candidates} {next : List Float} {s : Spa
         above = λ r p low high P h. t.above r p low high P (omega arith);
       }
     where
-      all : take j (listed c) ≡ listed c
-      all = ap (λ (k : ℕ). take k (listed c)) (sym e) ∙ take-length (listed c)
+      all : take j levels ≡ levels
+      all = ap (λ (k : ℕ). take k levels) (sym e) ∙ take-length levels
 
-      go : (r p : ℕ) → least ≤ r → r ≤ most → p ≤ 1 → r < n + 1 → (b : Bool) → eqb r n ≡ b → StateIs book x (listed c) next s least at row choices r p (listed c) (listed c)
+      go : (r p : ℕ) → least ≤ r → r ≤ most → p ≤ 1 → r < n + 1 → (b : Bool) → eqb r n ≡ b → StateIs book x levels next s least at row choices r p levels levels
       go r p low high P h true f = let same = eqb-true r n f in rw same (rw all at (t.here p (rw same at low) (rw same at high) P))
       go r p low high P h false f = t.done r p low high P (omega (arith, eqb-false r n f))
 
   -- ---- all edges
-  module _ {n : ℕ} (t : Tried book x (listed c) next s least most at n 0 row choices) (end : n ≤ most → s.upto < n) where
+  module _ {n : ℕ} (t : Tried book x levels next s least most at n 0 row choices) (end : n ≤ most → s.upto < n) where
     module _ (r p : ℕ) (low : least ≤ r) (high : r ≤ most) (P : p ≤ 1) where
       -- past the span no level has an edge
-      no_zero : n ≤ r → StateIs book x (listed c) next s least at row choices r p (listed c) [] → StateIs book x (listed c) next s least at row choices r p (listed c) (listed c)
+      no_zero : n ≤ r → StateIs book x levels next s least at row choices r p levels [] → StateIs book x levels next s least at row choices r p levels levels
       no_zero h v =
           let past : s.upto < n = end (omega arith) in
-          held-dead-zero (λ q m. w.locals r p q high P m) (zero-dead next s r (listed c) (tail-late next s r 0 (omega arith))) v
+          held-dead-zero (λ q m. w.locals r p q high P m) (zero-dead next s r levels (tail-late next s r 0 (omega arith))) v
 
-      no_edge : n + 1 ≤ r → StateIs book x (listed c) next s least at row choices r p [] [] → StateIs book x (listed c) next s least at row choices r p (listed c) (listed c)
+      no_edge : n + 1 ≤ r → StateIs book x levels next s least at row choices r p [] [] → StateIs book x levels next s least at row choices r p levels levels
       no_edge h v =
           let past : s.upto < n = end (omega arith) in
           no_zero (omega arith) (held-dead-nonzeros (λ q m. w.locals r p q high P m) (nonzero-dead next s r (λ _. tail-late next s (r - 1) 1 (omega arith))) v)
 
-      all-tried : StateIs book x (listed c) next s least at row choices r p (listed c) (listed c)
+      all-tried : StateIs book x levels next s least at row choices r p levels levels
       all-tried = go (ltb r n) refl (eqb r n) refl (eqb r (n + 1)) refl
         where
-          go : (a : Bool) → ltb r n ≡ a → (b : Bool) → eqb r n ≡ b → (d : Bool) → eqb r (n + 1) ≡ d → StateIs book x (listed c) next s least at row choices r p (listed c) (listed c)
+          go : (a : Bool) → ltb r n ≡ a → (b : Bool) → eqb r n ≡ b → (d : Bool) → eqb r (n + 1) ≡ d → StateIs book x levels next s least at row choices r p levels levels
           go true f b g d h = t.done r p low high P (ltb-true r n f)
           go false f true g d h = let same = eqb-true r n g in no_zero (ltb-false r n f) (rw same (t.here p (rw same at low) (rw same at high) P))
           go false f false g true h = let same = eqb-true r (n + 1) h in no_edge (omega arith) (rw same (t.next_one p (rw same at low) (rw same at high) P))
@@ -360,15 +358,15 @@ module _ {book : Book} {x : Place} {c : Candidates} {next : List Float} {s : Spa
       place_of : 2 * (least + i / 2 - least) + i % 2 ≡ i
       place_of = omega arith
 
-      entry-state : Held (local_at book x (least + i / 2) (i % 2)) (nonzero_tail next s (least + i / 2)) (zero_tail (listed c) next s (least + i / 2)) (listed c) (listed c) (listed c) (get_or row i nan) (get_or choices (at + i) 0)
+      entry-state : Held (local_at book x (least + i / 2) (i % 2)) (nonzero_tail next s (least + i / 2)) (zero_tail levels next s (least + i / 2)) levels levels levels (get_or row i nan) (get_or choices (at + i) 0)
       entry-state =
           rw place_of at (all-tried (least + i / 2) (i % 2) (omega arith) (omega arith) (omega arith))
 
-      entry-is : EntryIs book x (listed c) next s least i (get_or row i nan) (get_or choices (at + i) 0)
+      entry-is : EntryIs book x levels next s least i (get_or row i nan) (get_or choices (at + i) 0)
       unfolding row_cost row_level state_cost state_level tried_cost tried_level
       entry-is = let v = entry-state in record { cost = v.cost; level = v.level; below = v.below; none = v.none }
 
-    pub row_is : least ≤ most → RowIs book x (listed c) next s least at (2 * (most + 1 - least)) row choices
+    pub row_is : least ≤ most → RowIs book x levels next s least at (2 * (most + 1 - least)) row choices
     row_is some = record { entry = λ i h. entry-is i h some }
 
 -- ---- the bytes outside the row stay
@@ -389,17 +387,17 @@ updated-size k = ap length k.costs ∙ simp length-set
 
 -- ---- what holds in the loops
 -- over the candidates: j of them
-pub record Trying (book : Book) (x : Place) (c : Candidates) (next : List Float) (s : Span) (least most at n j : ℕ) (row row' : List Float) (choices choices' : List ℕ) : Type 0 where
-  pub upto : j ≤ c.count
+pub record Trying (book : Book) (x : Place) (levels : List ℤ) (next : List Float) (s : Span) (least most at n j : ℕ) (row row' : List Float) (choices choices' : List ℕ) : Type 0 where
+  pub upto : j ≤ length levels
   pub size : length row' ≡ length row
   pub elsewhere : Elsewhere at (2 * (most + 1 - least)) choices choices'
-  pub tried : Tried book x (listed c) next s least most at n j row' choices'
+  pub tried : Tried book x levels next s least most at n j row' choices'
 
 -- over the counts of the next row: those below n
-pub record Going (book : Book) (x : Place) (c : Candidates) (next : List Float) (s : Span) (least most at n : ℕ) (row row' : List Float) (choices choices' : List ℕ) : Type 0 where
+pub record Going (book : Book) (x : Place) (levels : List ℤ) (next : List Float) (s : Span) (least most at n : ℕ) (row row' : List Float) (choices choices' : List ℕ) : Type 0 where
   pub size : length row' ≡ length row
   pub elsewhere : Elsewhere at (2 * (most + 1 - least)) choices choices'
-  pub tried : Tried book x (listed c) next s least most at n 0 row' choices'
+  pub tried : Tried book x levels next s least most at n 0 row' choices'
 
 -- over the states to clear: i of n
 pub record Clearing (at n i : ℕ) (row row' : List Float) (choices choices' : List ℕ) : Type 0 where

@@ -6,14 +6,17 @@ use Rattle.std.specs.Float.Ieee.{lt}
 use Rattle.std.specs.Float.Ieee.Scale.{finite}
 use Rattle.costs.specs.Cost.{cost}
 use Rattle.least_cost.specs.Search.{holder, nonzeros}
+use Rattle.half_bytes.specs.Packed.{unpacked}
 use Rattle.prices.specs.Book.{Book}
+use Rattle.prices.specs.Contents.{contents}
 use Rattle.steps.specs.Place.{local_at}
 use Rattle.steps.specs.declared.Place.{Place}
 use Rattle.trellis_choice.specs.Chosen.{with, nonzero_cost, zero_cost}
 use Rattle.trellis_row.specs.Row.{nonzero_tail, zero_tail}
 use Rattle.trellis_row.specs.declared.row.Span.{Span}
+use Rattle.trellis_row.specs.declared.work.Row.{Row}
 
--- of an edge's cost x and the cost v that a state has, the lesser; the choice goes with it
+-- of an edge's cost x and the cost v that a state has, the lesser; the choice goes with it: `considered` of `steps`, by its fields
 unfoldable pub lesser : Float → Float → Float
 lesser x v = cond (lt x v) x v
 
@@ -51,6 +54,11 @@ pub record Tried (book : Book) (x : Place) (levels : List ℤ) (next : List Floa
   pub here : (p : ℕ) → least ≤ n → n ≤ most → p ≤ 1 → StateIs book x levels next s least at row choices n p levels (take j levels)
   pub next_one : (p : ℕ) → least ≤ n + 1 → n + 1 ≤ most → p ≤ 1 → StateIs book x levels next s least at row choices (n + 1) p (take j levels) []
   pub above : (r p : ℕ) → least ≤ r → r ≤ most → p ≤ 1 → n + 1 < r → StateIs book x levels next s least at row choices r p [] []
+
+-- .. of a row as the code has it
+abbrev pub TriedIn : Row → ℕ → ℕ → List Float → List ℕ → Type 0
+TriedIn row n j current choices =
+    Tried (contents row.book.now) row.place row.candidates.levels.now row.next.now row.span row.least row.most (2 * row.at) n j current (unpacked choices)
 
 -- n states at +infinity, their choices from `at` on
 pub record Cleared (at n : ℕ) (row : List Float) (choices : List ℕ) : Type 0 where

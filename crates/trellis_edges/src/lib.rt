@@ -4,30 +4,19 @@
 ghost use Rattle.std.specs.Prelude.{◌≡◌, ℕ, ◌+◌, ◌-◌, ◌*◌, ◌<◌, ◌≤◌, length};
 ghost use Rattle.std.specs.Float.Ieee.{add};
 ghost use Rattle.std.specs.Float.{binary32};
-ghost use Rattle.candidates.specs.Candidates.{in_array};
 ghost use Rattle.half_bytes.specs.Packed.{unpacked};
 ghost use Rattle.prices.specs.Contents.{contents};
 ghost use Rattle.steps.specs.Place.{distortion_at};
-ghost use Rattle.trellis_choice.specs.Locals.{listed, Each};
-ghost use Rattle.trellis_row.specs.Row.{RowIs, Elsewhere, Workable};
-ghost use Rattle.trellis_edges.specs.Edges.{lesser, choice_of, Updated, Tried, Cleared};
+ghost use Rattle.trellis_choice.specs.Locals.{Each};
+ghost use Rattle.trellis_row.specs.Filled.{Fits, Filled};
+ghost use Rattle.trellis_row.specs.Row.{Elsewhere};
+ghost use Rattle.trellis_edges.specs.Edges.{Updated, TriedIn, Cleared};
 
 use prices::Pair;
-use prices::book::PriceBook;
-use steps::Place;
-use trellis_choice::chosen::Chosen;
+use steps::best::Best;
 use trellis_row::row;
-use trellis_row::row::{Span, States};
-
-// What a state has after one edge more.
-fn after_edge(cost: f32, choice: u8, held: Chosen) -> Chosen
-    ensures { (result.cost ≡ lesser cost held.cost) × (result.choice ≡ choice_of cost held.cost choice held.choice) }
-{
-    if cost < held.cost {
-        return Chosen { cost, choice };
-    }
-    held
-}
+use trellis_row::row::States;
+use trellis_row::work::Row;
 
 // An edge into the two states of a row's k-th count, the row's choices being those from byte `at` on.
 fn update_pair(
@@ -44,123 +33,85 @@ fn update_pair(
 {
     let i = 2 * k;
     let byte = at + k;
-    let first = Chosen {
+    let first = Best {
         cost: current[i],
         choice: half_bytes::half(choices, byte, 0),
     };
-    let second = Chosen {
+    let second = Best {
         cost: current[i + 1],
         choice: half_bytes::half(choices, byte, 1),
     };
     let pair = States {
-        first: after_edge(local.first + tail, choice, first),
-        second: after_edge(local.second + tail, choice, second),
+        first: first.consider(local.first + tail, choice),
+        second: second.consider(local.second + tail, choice),
     };
     row::write_pair(current, choices, k, at, pair);
 }
 
-// The edge from count `n` of the next row over the candidate at `j`: none to a count outside the row, and none where nothing finite follows.
+// The edge from count `n` of the next row over the candidate at `j`: none to a count outside the row, and none where nothing finite follows. The distortions
+// stand beside the row: a struct of both would have a lifetime more for each.
 fn try_edge(
-    book: &PriceBook,
-    place: Place,
-    levels: &[i32; 5],
-    count: usize,
+    row: &Row,
     distortion: &[f32; 5],
-    next: &[f32],
-    span: Span,
     current: &mut [f32],
     choices: &mut [u8],
-    at: usize,
-    least: usize,
-    most: usize,
     n: usize,
     j: usize,
 )
-    requires workable { Workable (contents book.now) place (in_array count levels.now) next.now span most }
-    requires each { Each (distortion_at place) (listed (in_array count levels.now)) distortion.now }
-    requires least_le_most { (least ≤ most) × ((2 * (most - least) + 1 < length current.old) × (2 * at + 2 * (most - least) + 1 < length (unpacked choices.old))) }
-    requires n_le_most { (n ≤ most) × (j < count) }
-    requires tried { Tried (contents book.now) place (listed (in_array count levels.now)) next.now span least most (2 * at) n j current.old (unpacked choices.old) }
+    requires each { Each (distortion_at row.now.place) row.now.candidates.levels.now distortion.now }
+    requires fits { Fits row.now current.old choices.old }
+    requires n_le_most { (n ≤ row.now.most) × (j < length row.now.candidates.levels.now) }
+    requires tried { TriedIn row.now n j current.old choices.old }
     ensures current_len_unchanged { length current.new ≡ length current.old }
-    ensures elsewhere { Elsewhere (2 * at) (2 * (most + 1 - least)) (unpacked choices.old) (unpacked choices.new) }
-    ensures tried_after { Tried (contents book.now) place (listed (in_array count levels.now)) next.now span least most (2 * at) n (j + 1) current.new (unpacked choices.new) }
+    ensures elsewhere { Elsewhere (2 * row.now.at) (2 * (row.now.most + 1 - row.now.least)) (unpacked choices.old) (unpacked choices.new) }
+    ensures tried_after { TriedIn row.now n (j + 1) current.new choices.new }
 {
-    let level = levels[j];
+    let candidates = row.candidates;
+    let level = candidates.levels[j];
     let nonzero = steps::nonzero(level);
-    let r = n + nonzero;
-    if r < least || most < r {
-        return;
-    }
-    let tail = row::tail_at(next, span, n, nonzero);
+    let tail = row.tail_at(n, nonzero);
     if tail < costs::infinity() {
+        let r = n + nonzero;
+        if r < row.least || row.most < r {
+            return;
+        }
+        let place = row.place;
         let context = place.context(r);
-        let local = place.local_pair(book, context, level, distortion[j]);
-        update_pair(local, tail, j as u8, current, choices, r - least, at);
+        let local = place.local_pair(row.book, context, level, distortion[j]);
+        let k = r - row.least;
+        update_pair(local, tail, j as u8, current, choices, k, row.at);
     }
 }
 
 // All edges from count `n` of the next row.
-fn edges_from(
-    book: &PriceBook,
-    place: Place,
-    levels: &[i32; 5],
-    count: usize,
-    distortion: &[f32; 5],
-    next: &[f32],
-    span: Span,
-    current: &mut [f32],
-    choices: &mut [u8],
-    at: usize,
-    least: usize,
-    most: usize,
-    n: usize,
-)
-    requires workable { Workable (contents book.now) place (in_array count levels.now) next.now span most }
-    requires each { Each (distortion_at place) (listed (in_array count levels.now)) distortion.now }
-    requires least_le_most { (least ≤ most) × ((2 * (most - least) + 1 < length current.old) × (2 * at + 2 * (most - least) + 1 < length (unpacked choices.old))) }
-    requires n_le_most { n ≤ most }
-    requires tried { Tried (contents book.now) place (listed (in_array count levels.now)) next.now span least most (2 * at) n 0 current.old (unpacked choices.old) }
+fn edges_from(row: &Row, distortion: &[f32; 5], current: &mut [f32], choices: &mut [u8], n: usize)
+    requires each { Each (distortion_at row.now.place) row.now.candidates.levels.now distortion.now }
+    requires fits { Fits row.now current.old choices.old }
+    requires n_le_most { n ≤ row.now.most }
+    requires tried { TriedIn row.now n 0 current.old choices.old }
     ensures current_len_unchanged { length current.new ≡ length current.old }
-    ensures elsewhere { Elsewhere (2 * at) (2 * (most + 1 - least)) (unpacked choices.old) (unpacked choices.new) }
-    ensures tried_after { Tried (contents book.now) place (listed (in_array count levels.now)) next.now span least most (2 * at) (n + 1) 0 current.new (unpacked choices.new) }
+    ensures elsewhere { Elsewhere (2 * row.now.at) (2 * (row.now.most + 1 - row.now.least)) (unpacked choices.old) (unpacked choices.new) }
+    ensures tried_after { TriedIn row.now (n + 1) 0 current.new choices.new }
 {
-    for j in 0..count {
-        try_edge(
-            book, place, levels, count, distortion, next, span, current, choices, at, least, most,
-            n, j,
-        );
+    let candidates = row.candidates;
+    for j in 0..candidates.levels.len() {
+        try_edge(row, distortion, current, choices, n, j);
     }
 }
 
 // All edges of the row, whose states are at +infinity.
-fn all_edges(
-    book: &PriceBook,
-    place: Place,
-    levels: &[i32; 5],
-    count: usize,
-    distortion: &[f32; 5],
-    next: &[f32],
-    span: Span,
-    current: &mut [f32],
-    choices: &mut [u8],
-    at: usize,
-    least: usize,
-    most: usize,
-)
-    requires workable { Workable (contents book.now) place (in_array count levels.now) next.now span most }
-    requires each { Each (distortion_at place) (listed (in_array count levels.now)) distortion.now }
-    requires least_le_most { (least ≤ most) × ((2 * (most - least) + 1 < length current.old) × (2 * at + 2 * (most - least) + 1 < length (unpacked choices.old))) }
-    requires cleared { Cleared (2 * at) (2 * (most + 1 - least)) current.old (unpacked choices.old) }
-    ensures current_len_unchanged { length current.new ≡ length current.old }
-    ensures elsewhere { Elsewhere (2 * at) (2 * (most + 1 - least)) (unpacked choices.old) (unpacked choices.new) }
-    ensures row_is { RowIs (contents book.now) place (listed (in_array count levels.now)) next.now span least (2 * at) (2 * (most + 1 - least)) current.new (unpacked choices.new) }
+fn all_edges(row: &Row, distortion: &[f32; 5], current: &mut [f32], choices: &mut [u8])
+    requires each { Each (distortion_at row.now.place) row.now.candidates.levels.now distortion.now }
+    requires fits { Fits row.now current.old choices.old }
+    requires cleared { Cleared (2 * row.now.at) (2 * (row.now.most + 1 - row.now.least)) current.old (unpacked choices.old) }
+    ensures { Filled row.now current.old current.new choices.old choices.new }
 {
+    // A copy: what is lent would be read anew after each write.
+    let own = *row;
+    let span = own.span;
     // No edge leads into the row from a count past `most`.
-    for n in span.from..=span.upto.min(most) {
-        edges_from(
-            book, place, levels, count, distortion, next, span, current, choices, at, least, most,
-            n,
-        );
+    for n in span.from..=span.upto.min(own.most) {
+        edges_from(&own, distortion, current, choices, n);
     }
 }
 
@@ -176,41 +127,13 @@ fn clear(current: &mut [f32], choices: &mut [u8], at: usize, n: usize)
     }
 }
 
-// The states of the counts from `least` to `most`: their costs from the front of `current`, their choices from byte `at` on.
-pub fn fill_row(
-    book: &PriceBook,
-    place: Place,
-    levels: &[i32; 5],
-    count: usize,
-    next: &[f32],
-    span: Span,
-    current: &mut [f32],
-    choices: &mut [u8],
-    at: usize,
-    least: usize,
-    most: usize,
-)
-    requires workable { Workable (contents book.now) place (in_array count levels.now) next.now span most }
-    requires least_le_most { (least ≤ most) × ((2 * (most - least) + 1 < length current.old) × (2 * at + 2 * (most - least) + 1 < length (unpacked choices.old))) }
-    ensures current_len_unchanged { length current.new ≡ length current.old }
-    ensures elsewhere { Elsewhere (2 * at) (2 * (most + 1 - least)) (unpacked choices.old) (unpacked choices.new) }
-    ensures row_is { RowIs (contents book.now) place (listed (in_array count levels.now)) next.now span least (2 * at) (2 * (most + 1 - least)) current.new (unpacked choices.new) }
+// The row's states: their costs from the front of `current`, their choices from the row's byte on.
+pub fn fill_row(row: &Row, current: &mut [f32], choices: &mut [u8])
+    requires { Fits row.now current.old choices.old }
+    ensures { Filled row.now current.old current.new choices.old choices.new }
 {
     let mut distortion = [0.0f32; 5];
-    steps::reading::distortions(place, levels, count, &mut distortion);
-    clear(current, choices, at, most + 1 - least);
-    all_edges(
-        book,
-        place,
-        levels,
-        count,
-        &distortion,
-        next,
-        span,
-        current,
-        choices,
-        at,
-        least,
-        most,
-    );
+    steps::reading::distortions(row.place, &row.candidates, &mut distortion);
+    clear(current, choices, row.at, row.most + 1 - row.least);
+    all_edges(row, &distortion, current, choices);
 }

@@ -1,3 +1,4 @@
 pub mod Rows
+pub mod Rooms
 pub mod Recursion
 pub mod Table

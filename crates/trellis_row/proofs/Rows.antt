@@ -25,12 +25,11 @@ use Rattle.least_cost.proofs.Trial.{nonzeros-listed}
 use Rattle.prices.specs.Book.{Book}
 use Rattle.steps.specs.Place.{context_at, local_in, local_at}
 use Rattle.steps.specs.declared.Place.{Place}
-use Rattle.candidates.specs.declared.Candidates.{Candidates}
 use Rattle.trellis_choice.specs.Locals.{Located}
 use Rattle.trellis_choice.specs.Chosen.{with, state_cost, nonzero_cost, zero_cost, ZeroAt, Settled}
 use Rattle.trellis_row.specs.Row.{tail_at, nonzero_tail, zero_tail, row_cost, row_level, EntryIs, RowIs, Elsewhere, Coding, Workable}
 use Rattle.trellis_choice.proofs.Choosing.{zero-listed}
-use Rattle.trellis_choice.specs.declared.chosen.Chosen.{Chosen}
+use Rattle.steps.specs.declared.best.Best.{Best}
 use Rattle.trellis_choice.specs.declared.locals.Locals.{Locals}
 use Rattle.trellis_row.specs.declared.row.Span.{Span}
 
@@ -124,7 +123,7 @@ module _ (book : Book) (x : Place) (levels : List ℤ) (next : List Float) (s : 
       record { entry = two-more (EntryIs book x levels next s least) row choices at i a b m n room space w.entry e f }
 
 -- ---- what follows is a cost
-module _ {book : Book} {x : Place} {c : Candidates} {next : List Float} {s : Span} {most : ℕ} (w : Workable book x c next s most) where
+module _ {book : Book} {x : Place} {levels : List ℤ} {next : List Float} {s : Span} {most : ℕ} (w : Workable book x levels next s most) where
   tail-cost : (r p : ℕ) → p ≤ 1 → T (cost (tail_at next s r p))
   unfolding tail_at cost
   tail-cost r p h = go (leb s.from r) refl (leb r s.upto) refl
@@ -199,7 +198,7 @@ module _ (book : Book) (x : Place) (levels : List ℤ) (next : List Float) (s : 
       (rw (q, j) (entry-dead book x levels next s least r (2 * (r - least) + 1) 1 second-count second-prev (λ z. G 1 z (lit≤ tt)) u v))
 
 -- a choice that is packed is the one that was settled
-pub settled-kept : {g : ℤ → Float} {x z : Float} {levels : List ℤ} {r : Chosen} → length levels ≤ 5 → Settled g x z levels r → Settled g x z levels (record { cost = r.cost; choice = kept r.choice })
+pub settled-kept : {g : ℤ → Float} {x z : Float} {levels : List ℤ} {r : Best ℕ} → length levels ≤ 5 → Settled g x z levels r → Settled g x z levels (record { cost = r.cost; choice = kept r.choice })
 settled-kept {g} {x} {z} {levels} {r} few w = subst⁻¹ (λ (c : ℕ). Settled g x z levels (record { cost = r.cost; choice = c })) (go (finite r.cost) refl) w
   where
     go : (t : Bool) → finite r.cost ≡ t → kept r.choice ≡ r.choice
@@ -220,31 +219,31 @@ alike-context x {from} w some n low high =
     rw (ne_eqb n 0 (λ e. some (omega arith)), ne_eqb from 0 some) (ap (λ (z : ℕ). x.offset + z) (w.same n x.k 0 low high))
 
 -- the counts from `from` up to r, r not included, are done; R is what a count's states are worked out from
-pub record Ran (R : Book → Place → ℕ → Type 0) (levels : List ℤ) (next : List Float) (s : Span) (at least from upto r : ℕ) (row row' : List Float) (choices choices' : List ℕ) : Type 0 where
+pub record Ran (R : ℕ → Type 0) (book : Book) (x : Place) (levels : List ℤ) (next : List Float) (s : Span) (at least from upto r : ℕ) (row row' : List Float) (choices choices' : List ℕ) : Type 0 where
   pub start : from ≤ r
   pub end : r ≤ upto + 1
   pub size : length row' ≡ length row
   pub elsewhere : Elsewhere (at + 2 * (from - least)) (2 * (r - from)) choices choices'
-  pub more : (book : Book) (x : Place) → ((n : ℕ) → from ≤ n → n ≤ upto → R book x n)
+  pub more : ((n : ℕ) → from ≤ n → n ≤ upto → R n)
       → RowIs book x levels next s least at (2 * (from - least)) row choices → RowIs book x levels next s least at (2 * (r - least)) row' choices'
 
-pub ran-none : (R : Book → Place → ℕ → Type 0) (levels : List ℤ) (next : List Float) (s : Span) (at least from upto : ℕ) (row : List Float) (choices : List ℕ) → from ≤ upto
-    → Ran R levels next s at least from upto from row row choices choices
-ran-none R levels next s at least from upto row choices h =
+pub ran-none : (R : ℕ → Type 0) (book : Book) (x : Place) (levels : List ℤ) (next : List Float) (s : Span) (at least from upto : ℕ) (row : List Float) (choices : List ℕ) → from ≤ upto
+    → Ran R book x levels next s at least from upto from row row choices choices
+ran-none R book x levels next s at least from upto row choices h =
     let nothing : 2 * (from - from) ≡ 0 = omega arith in
     record {
       start = le_refl from;
       end = omega arith;
       size = refl;
       elsewhere = rw nothing (elsewhere-none (at + 2 * (from - least)) choices);
-      more = λ book x G w. w;
+      more = λ G w. w;
     }
 
-pub ran-more : {R : Book → Place → ℕ → Type 0} {levels : List ℤ} {next : List Float} {s : Span} {at least from upto r : ℕ} {row row' row'' : List Float} {choices choices' choices'' : List ℕ}
-    → least ≤ from → r ≤ upto → Ran R levels next s at least from upto r row row' choices choices' → length row'' ≡ length row' → Elsewhere (at + 2 * (r - least)) 2 choices' choices''
-    → ((book : Book) (x : Place) → R book x r → RowIs book x levels next s least at (2 * (r - least)) row' choices' → RowIs book x levels next s least at (2 * (r - least) + 2) row'' choices'')
-    → Ran R levels next s at least from upto (r + 1) row row'' choices choices''
-ran-more {R} {levels} {next} {s} {at} {least} {from} {upto} {r} low h w size elsewhere more =
+pub ran-more : {R : ℕ → Type 0} {book : Book} {x : Place} {levels : List ℤ} {next : List Float} {s : Span} {at least from upto r : ℕ} {row row' row'' : List Float} {choices choices' choices'' : List ℕ}
+    → least ≤ from → r ≤ upto → Ran R book x levels next s at least from upto r row row' choices choices' → length row'' ≡ length row' → Elsewhere (at + 2 * (r - least)) 2 choices' choices''
+    → (R r → RowIs book x levels next s least at (2 * (r - least)) row' choices' → RowIs book x levels next s least at (2 * (r - least) + 2) row'' choices'')
+    → Ran R book x levels next s at least from upto (r + 1) row row'' choices choices''
+ran-more {R} {book} {x} {levels} {next} {s} {at} {least} {from} {upto} {r} low h w size elsewhere more =
     let step : 2 * (r + 1 - least) ≡ 2 * (r - least) + 2 = omega (arith, w.start) in
     let wide : 2 * (r + 1 - from) ≡ 2 * (r - from) + 2 = omega (arith, w.start) in
     let place : at + 2 * (r - least) ≡ at + 2 * (from - least) + 2 * (r - from) = omega (arith, w.start) in
@@ -253,15 +252,15 @@ ran-more {R} {levels} {next} {s} {at} {least} {from} {upto} {r} low h w size els
       end = omega arith;
       size = size ∙ w.size;
       elsewhere = rw wide (elsewhere-more w.elsewhere (rw place at elsewhere));
-      more = λ book x G v. rw step (more book x (G r w.start h) (w.more book x G v));
+      more = λ G v. rw step (more (G r w.start h) (w.more G v));
     }
 
 -- ---- the whole row
-pub workable-less : {book : Book} {x : Place} {c : Candidates} {next : List Float} {s : Span} {most r : ℕ} → r ≤ most → Workable book x c next s most → Workable book x c next s r
+pub workable-less : {book : Book} {x : Place} {levels : List ℤ} {next : List Float} {s : Span} {most r : ℕ} → r ≤ most → Workable book x levels next s most → Workable book x levels next s r
 workable-less h w =
     record {
       priced = w.priced;
-      usable = w.usable;
+      pickable = w.pickable;
       covers = w.covers;
       coded = w.coded;
       left = omega (arith, w.left);
@@ -275,7 +274,7 @@ workable-less h w =
 pub row-none : (book : Book) (x : Place) (levels : List ℤ) (next : List Float) (s : Span) (least at : ℕ) (row : List Float) (choices : List ℕ) → RowIs book x levels next s least at 0 row choices
 row-none book x levels next s least at row choices = record { entry = λ i h. absurd (omega arith) }
 
-pub coding-of : {book : Book} {x : Place} {c : Candidates} {next : List Float} {s : Span} {most : ℕ} → Workable book x c next s most → Coding x most
+pub coding-of : {book : Book} {x : Place} {levels : List ℤ} {next : List Float} {s : Span} {most : ℕ} → Workable book x levels next s most → Coding x most
 coding-of w = record { covers = w.covers; coded = w.coded; left = w.left; offset = w.offset }
 
 -- the counts from `least` up to r, r not included, are done
@@ -312,12 +311,6 @@ so_far_more {at = at} {least} {most} {r} {e} h k w size elsewhere more =
       elsewhere = rw step (elsewhere-more w.elsewhere elsewhere);
       done = more w.done;
     }
-
--- there is room for the next pair
-pub so-far-room : {book : Book} {x : Place} {levels : List ℤ} {next : List Float} {s : Span} {at least most r : ℕ} {row row' : List Float} {choices choices' : List ℕ}
-    → r ≤ most → SoFar book x levels next s at least most r row row' choices choices' → (2 * (most - least) + 1 < length row) × (at + 2 * (most - least) + 1 < length choices)
-    → (2 * (r - least) + 1 < length row') × (at + 2 * (r - least) + 1 < length choices')
-so-far-room h w room = (omega (arith, room.0, w.size, w.from), omega (arith, room.1, w.elsewhere.size, w.from))
 
 -- a count more, its pair written
 pub so-far-pair : {book : Book} {x : Place} {levels : List ℤ} {next : List Float} {s : Span} {at least most r : ℕ} {row row' row'' : List Float} {choices choices' choices'' : List ℕ}

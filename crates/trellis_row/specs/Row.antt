@@ -4,14 +4,13 @@ use mathlib.Core.List.{List, Memᴰ}
 use Rattle.std.specs.Float.{nan, inf}
 use Rattle.std.specs.Float.Ieee.Scale.{finite}
 use Rattle.ac_context.specs.Contexts.{Covered}
-use Rattle.candidates.specs.declared.Candidates.{Candidates}
 use Rattle.costs.specs.Cost.{cost}
 use Rattle.least_cost.specs.Search.{has_zero}
 use Rattle.prices.specs.Book.{Book}
 use Rattle.prices.specs.Checks.{book_refusal}
 use Rattle.steps.specs.Place.{local_at}
 use Rattle.steps.specs.declared.Place.{Place}
-use Rattle.trellis_choice.specs.Locals.{listed, Usable, Located}
+use Rattle.trellis_choice.specs.Locals.{Pickable, Located}
 use Rattle.trellis_choice.specs.Chosen.{state_cost, state_level, ZeroAt}
 use Rattle.trellis_choice.specs.declared.locals.Locals.{Locals}
 use Rattle.trellis_row.specs.declared.row.Span.{Span}
@@ -63,21 +62,21 @@ pub record Coding (x : Place) (most : ℕ) : Type 0 where
   pub offset : x.offset + 457 < 14850
 
 -- what a row is worked out from: a book that passed, candidates, contexts that exist for every count up to `most`, and costs throughout
-pub record Workable (book : Book) (x : Place) (c : Candidates) (next : List Float) (s : Span) (most : ℕ) : Type 0 where
+pub record Workable (book : Book) (x : Place) (levels : List ℤ) (next : List Float) (s : Span) (most : ℕ) : Type 0 where
   pub priced : book_refusal book ≡ 0
-  pub usable : Usable c
+  pub pickable : Pickable levels
   pub covers : Covered x.covered x.log2
   pub coded : x.covered ≤ x.k
   pub left : most + x.k ≤ 64 * x.covered
   pub offset : x.offset + 457 < 14850
-  pub locals : (r p : ℕ) (q : ℤ) → r ≤ most → p ≤ 1 → Memᴰ q (listed c) → T (cost (local_at book x r p q))
+  pub locals : (r p : ℕ) (q : ℤ) → r ≤ most → p ≤ 1 → Memᴰ q levels → T (cost (local_at book x r p q))
   pub starts : s.base ≤ s.from
   pub room : s.from ≤ s.upto → 2 * (s.upto - s.base) + 1 < length next
   pub tails : (r p : ℕ) → s.from ≤ r → r ≤ s.upto → p ≤ 1 → T (cost (get_or next (2 * (r - s.base) + p) nan))
 
 -- what a count's two states are worked out from: the local costs in its context, and the index of 0 among the candidates
-pub record Ready (book : Book) (x : Place) (c : Candidates) (next : List Float) (s : Span) (first second : List Float) (l : Locals) (zero r : ℕ) : Type 0 where
-  pub work : Workable book x c next s r
-  pub located : Located (local_at book x r 0) (local_at book x r 1) (listed c) first second l
-  pub zero_at : ZeroAt (listed c) zero
-  pub zero_none : has_zero (listed c) ≡ false → zero ≡ 255
+pub record Ready (book : Book) (x : Place) (levels : List ℤ) (next : List Float) (s : Span) (first second : List Float) (l : Locals) (zero r : ℕ) : Type 0 where
+  pub work : Workable book x levels next s r
+  pub located : Located (local_at book x r 0) (local_at book x r 1) levels first second l
+  pub zero_at : ZeroAt levels zero
+  pub zero_none : has_zero levels ≡ false → zero ≡ 255

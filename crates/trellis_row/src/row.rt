@@ -3,20 +3,20 @@ ghost use Rattle.std.specs.Prelude.{◌≡◌, true, false, ℕ, ◌+◌, ◌-�
 ghost use Rattle.std.specs.Float.{inf};
 ghost use Rattle.std.specs.Float.Ieee.{lt};
 ghost use mathlib.Core.List.{Memᴰ};
-ghost use Rattle.candidates.specs.Candidates.{in_array};
 ghost use Rattle.costs.specs.Cost.{cost as is_cost};
 ghost use Rattle.least_cost.specs.Search.{has_zero};
 ghost use Rattle.half_bytes.specs.Packed.{unpacked, kept};
-ghost use Rattle.prices.specs.Book.{Book};
 ghost use Rattle.prices.specs.Contents.{contents};
 ghost use Rattle.steps.specs.Place.{context_at};
-ghost use Rattle.trellis_choice.specs.Locals.{listed, Usable, Located};
+ghost use Rattle.trellis_choice.specs.Locals.{Located};
 ghost use Rattle.trellis_choice.specs.Chosen.{ZeroAt, Settled};
-ghost use Rattle.trellis_row.specs.Row.{tail_at, nonzero_tail, RowIs, Elsewhere, Coding, Workable, Ready};
+ghost use Rattle.trellis_row.specs.Filled.{Fits, Begun, Filled};
+ghost use Rattle.trellis_row.specs.Row.{Elsewhere, Coding, Ready};
 
-use prices::book::PriceBook;
+use crate::work::Row;
 use steps::Place;
-use trellis_choice::chosen::Chosen;
+use steps::best::Best;
+use steps::reading::CandidateList;
 use trellis_choice::locals::Locals;
 use trellis_choice::{chosen, locals};
 
@@ -31,77 +31,45 @@ pub struct Span {
 // The two states of a count.
 #[derive(Clone, Copy)]
 pub struct States {
-    pub first: Chosen,
-    pub second: Chosen,
+    pub first: Best<u8>,
+    pub second: Best<u8>,
 }
 
-pub fn tail_at(next: &[f32], span: Span, r: usize, prev: usize) -> f32
-    requires { (span.base ≤ span.from) × ((span.from ≤ span.upto → 2 * (span.upto - span.base) + 1 < length next.now) × (prev ≤ 1)) }
-    ensures { result ≡ tail_at next.now span r prev }
-{
-    if r < span.from || span.upto < r {
-        return costs::infinity();
-    }
-    next[2 * (r - span.base) + prev]
-}
-
-pub fn nonzero_tail(next: &[f32], span: Span, r: usize) -> f32
-    requires { (span.base ≤ span.from) × (span.from ≤ span.upto → 2 * (span.upto - span.base) + 1 < length next.now) }
-    ensures { result ≡ nonzero_tail next.now span r }
-{
-    if r < 1 {
-        return costs::infinity();
-    }
-    tail_at(next, span, r - 1, 1)
-}
-
-// `zero` is the index of 0 among the candidates, 255 where it is not listed.
-fn zero_tail(next: &[f32], span: Span, r: usize, zero: u8) -> f32
-    requires { (span.base ≤ span.from) × (span.from ≤ span.upto → 2 * (span.upto - span.base) + 1 < length next.now) }
-    ensures { (zero ≡ 255 → result ≡ inf false) × ((zero ≡ 255 → ⊥) → result ≡ tail_at next.now span r 0) }
-{
-    if zero == 255 {
-        return costs::infinity();
-    }
-    tail_at(next, span, r, 0)
+// What the counts share that share a context: the local costs of the candidates for `prev` 0 and 1, and the index of 0 among them, 255 where it is not listed.
+#[derive(Clone, Copy)]
+struct Shared<'a> {
+    first: &'a [f32; 5],
+    second: &'a [f32; 5],
+    locals: Locals,
+    zero: u8,
 }
 
 // The two states of a count, what follows at hand.
-fn settle(
-    levels: &[i32; 5],
-    count: usize,
-    first: &[f32; 5],
-    second: &[f32; 5],
-    locals: Locals,
-    zero: u8,
-    nonzero_tail: f32,
-    zero_tail: f32,
-) -> States
-    requires { Usable (in_array count levels.now) }
-    ensures { (g h : ℤ → Float) → Located g h (listed (in_array count levels.now)) first.now second.now locals → ((q : ℤ) → Memᴰ q (listed (in_array count levels.now)) → T (is_cost (g q))) → ((q : ℤ) → Memᴰ q (listed (in_array count levels.now)) → T (is_cost (h q)))
-        → ZeroAt (listed (in_array count levels.now)) zero → T (is_cost nonzero_tail) → T (is_cost zero_tail) → (has_zero (listed (in_array count levels.now)) ≡ false → zero_tail ≡ inf false)
-        → (Settled g nonzero_tail zero_tail (listed (in_array count levels.now)) result.first) × (Settled h nonzero_tail zero_tail (listed (in_array count levels.now)) result.second) }
+fn settle(candidates: &CandidateList, shared: &Shared, nonzero_tail: f32, zero_tail: f32) -> States
+    ensures { (g h : ℤ → Float) → Located g h candidates.now.levels.now shared.now.first.now shared.now.second.now shared.now.locals
+        → ((q : ℤ) → Memᴰ q candidates.now.levels.now → T (is_cost (g q))) → ((q : ℤ) → Memᴰ q candidates.now.levels.now → T (is_cost (h q)))
+        → ZeroAt candidates.now.levels.now shared.now.zero → T (is_cost nonzero_tail) → T (is_cost zero_tail) → (has_zero candidates.now.levels.now ≡ false → zero_tail ≡ inf false)
+        → (Settled g nonzero_tail zero_tail candidates.now.levels.now result.first) × (Settled h nonzero_tail zero_tail candidates.now.levels.now result.second) }
 {
+    let locals = shared.locals;
     let least_first = locals.least_first;
     let least_second = locals.least_second;
     States {
         first: chosen::choose(
-            levels,
-            count,
-            first,
+            candidates,
+            shared.first,
             least_first,
             locals.zero_first,
-            zero,
+            shared.zero,
             nonzero_tail,
             zero_tail,
         ),
         second: chosen::choose(
-            levels,
-            count,
-            second,
+            candidates,
+            shared.second,
             least_second,
             locals.zero_second,
-            zero,
+            shared.zero,
             nonzero_tail,
             zero_tail,
         ),
@@ -133,7 +101,7 @@ fn infinite(x: f32, z: f32) -> bool
 pub fn unreachable() -> States
     ensures { (result.first.cost ≡ inf false) × ((result.second.cost ≡ inf false) × ((result.first.choice ≡ 255) × (result.second.choice ≡ 255))) }
 {
-    let none = Chosen {
+    let none = Best {
         cost: costs::infinity(),
         choice: 255,
     };
@@ -143,43 +111,27 @@ pub fn unreachable() -> States
     }
 }
 
-// The two states of count `r`, written behind those of the counts from `least` on.
-fn row_state(
-    levels: &[i32; 5],
-    count: usize,
-    first: &[f32; 5],
-    second: &[f32; 5],
-    locals: Locals,
-    zero: u8,
-    next: &[f32],
-    span: Span,
-    current: &mut [f32],
-    choices: &mut [u8],
-    at: usize,
-    least: usize,
-    r: usize,
-)
-    requires usable { Usable (in_array count levels.now) }
-    requires base_le_from { (span.base ≤ span.from) × (span.from ≤ span.upto → 2 * (span.upto - span.base) + 1 < length next.now) }
-    requires least_le_r { (least ≤ r) × ((2 * (r - least) + 1 < length current.old) × (2 * at + 2 * (r - least) + 1 < length (unpacked choices.old))) }
+// The two states of count `r`, written behind those of the counts before it.
+fn row_state(row: &Row, shared: &Shared, current: &mut [f32], choices: &mut [u8], r: usize)
+    requires r_within { (row.now.least ≤ r) × (r ≤ row.now.most) }
+    requires fits { Fits row.now current.old choices.old }
     ensures current_len_unchanged { length current.new ≡ length current.old }
-    ensures elsewhere { Elsewhere (2 * at + 2 * (r - least)) 2 (unpacked choices.old) (unpacked choices.new) }
-    ensures row_is { (book : Book) (x : Place) → Ready book x (in_array count levels.now) next.now span first.now second.now locals zero r
-        → RowIs book x (listed (in_array count levels.now)) next.now span least (2 * at) (2 * (r - least)) current.old (unpacked choices.old)
-        → RowIs book x (listed (in_array count levels.now)) next.now span least (2 * at) (2 * (r - least) + 2) current.new (unpacked choices.new) }
+    ensures elsewhere { Elsewhere (2 * row.now.at + 2 * (r - row.now.least)) 2 (unpacked choices.old) (unpacked choices.new) }
+    ensures begun { Ready (contents row.now.book.now) row.now.place row.now.candidates.levels.now row.now.next.now row.now.span shared.now.first.now shared.now.second.now shared.now.locals shared.now.zero r
+        → Begun row.now (2 * (r - row.now.least)) current.old choices.old → Begun row.now (2 * (r - row.now.least) + 2) current.new choices.new }
 {
-    let x = nonzero_tail(next, span, r);
-    let z = zero_tail(next, span, r, zero);
+    let x = row.nonzero_tail(r);
+    let z = row.zero_tail(r, shared.zero);
     if infinite(x, z) {
-        write_pair(current, choices, r - least, at, unreachable());
+        write_pair(current, choices, r - row.least, row.at, unreachable());
         return;
     }
     write_pair(
         current,
         choices,
-        r - least,
-        at,
-        settle(levels, count, first, second, locals, zero, x, z),
+        r - row.least,
+        row.at,
+        settle(&row.candidates, shared, x, z),
     );
 }
 
@@ -197,90 +149,66 @@ pub fn run_end(place: Place, from: usize, most: usize) -> usize
 
 // The states of the counts from `from` to `upto`, which share their local costs.
 fn fill_run(
-    levels: &[i32; 5],
-    count: usize,
-    first: &[f32; 5],
-    second: &[f32; 5],
-    locals: Locals,
-    zero: u8,
-    next: &[f32],
-    span: Span,
+    row: &Row,
+    shared: &Shared,
     current: &mut [f32],
     choices: &mut [u8],
-    at: usize,
-    least: usize,
     from: usize,
     upto: usize,
 )
-    requires usable { Usable (in_array count levels.now) }
-    requires base_le_from { (span.base ≤ span.from) × (span.from ≤ span.upto → 2 * (span.upto - span.base) + 1 < length next.now) }
-    requires least_le_from { (least ≤ from) × ((from ≤ upto) × (upto ≤ 131072)) }
-    requires least_in_bounds { (2 * (upto - least) + 1 < length current.old) × (2 * at + 2 * (upto - least) + 1 < length (unpacked choices.old)) }
+    requires from_within { (row.now.least ≤ from) × ((from ≤ upto) × (upto ≤ row.now.most)) }
+    requires fits { Fits row.now current.old choices.old }
     ensures current_len_unchanged { length current.new ≡ length current.old }
-    ensures elsewhere { Elsewhere (2 * at + 2 * (from - least)) (2 * (upto + 1 - from)) (unpacked choices.old) (unpacked choices.new) }
-    ensures by_index { (book : Book) (x : Place) → ((r : ℕ) → from ≤ r → r ≤ upto → Ready book x (in_array count levels.now) next.now span first.now second.now locals zero r)
-        → RowIs book x (listed (in_array count levels.now)) next.now span least (2 * at) (2 * (from - least)) current.old (unpacked choices.old)
-        → RowIs book x (listed (in_array count levels.now)) next.now span least (2 * at) (2 * (upto + 1 - least)) current.new (unpacked choices.new) }
+    ensures elsewhere { Elsewhere (2 * row.now.at + 2 * (from - row.now.least)) (2 * (upto + 1 - from)) (unpacked choices.old) (unpacked choices.new) }
+    ensures begun { ((r : ℕ) → from ≤ r → r ≤ upto → Ready (contents row.now.book.now) row.now.place row.now.candidates.levels.now row.now.next.now row.now.span shared.now.first.now shared.now.second.now shared.now.locals shared.now.zero r)
+        → Begun row.now (2 * (from - row.now.least)) current.old choices.old → Begun row.now (2 * (upto + 1 - row.now.least)) current.new choices.new }
 {
     for r in from..=upto {
-        row_state(
-            levels, count, first, second, locals, zero, next, span, current, choices, at, least, r,
-        );
+        row_state(row, shared, current, choices, r);
     }
 }
 
-// The states of the counts from `least` to `most`: their costs from the front of `current`, their choices from byte `at` on. Counts that
-// share a context share their local costs, which are worked out from the first of them that something finite follows.
-pub fn fill_row(
-    book: &PriceBook,
-    place: Place,
-    levels: &[i32; 5],
-    count: usize,
-    next: &[f32],
-    span: Span,
-    current: &mut [f32],
-    choices: &mut [u8],
-    at: usize,
-    least: usize,
-    most: usize,
-)
-    requires workable { Workable (contents book.now) place (in_array count levels.now) next.now span most }
-    requires least_le_most { (least ≤ most) × ((2 * (most - least) + 1 < length current.old) × (2 * at + 2 * (most - least) + 1 < length (unpacked choices.old))) }
-    ensures current_len_unchanged { length current.new ≡ length current.old }
-    ensures elsewhere { Elsewhere (2 * at) (2 * (most + 1 - least)) (unpacked choices.old) (unpacked choices.new) }
-    ensures row_is { RowIs (contents book.now) place (listed (in_array count levels.now)) next.now span least (2 * at) (2 * (most + 1 - least)) current.new (unpacked choices.new) }
+// The row's states: their costs from the front of `current`, their choices from the row's byte on. Counts that share a context share their local
+// costs, which are worked out from the first of them that something finite follows. The room is lent, since it is written.
+pub fn fill_row(row: &Row, current: &mut [f32], choices: &mut [u8])
+    requires { Fits row.now current.old choices.old }
+    ensures { Filled row.now current.old current.new choices.old choices.new }
 {
+    let candidates = row.candidates;
+    let place = row.place;
     let mut distortion = [0.0f32; 5];
     let mut first = [0.0f32; 5];
     let mut second = [0.0f32; 5];
-    steps::reading::distortions(place, levels, count, &mut distortion);
-    let zero = chosen::zero_index(levels, count);
+    steps::reading::distortions(place, &candidates, &mut distortion);
+    let zero = chosen::zero_index(&candidates);
     // By runs of counts, not count by count.
-    let mut r = least;
-    while r <= most {
-        let x = nonzero_tail(next, span, r);
-        let z = zero_tail(next, span, r, zero);
+    let mut r = row.least;
+    while r <= row.most {
+        let x = row.nonzero_tail(r);
+        let z = row.zero_tail(r, zero);
         if infinite(x, z) {
-            write_pair(current, choices, r - least, at, unreachable());
+            write_pair(current, choices, r - row.least, row.at, unreachable());
             r += 1;
             continue;
         }
         let context = place.context(r);
         let locals = locals::locals_in(
-            book,
+            row.book,
             place,
-            levels,
-            count,
+            &candidates,
             &distortion,
             context,
             &mut first,
             &mut second,
         );
-        let end = run_end(place, r, most);
-        fill_run(
-            levels, count, &first, &second, locals, zero, next, span, current, choices, at, least,
-            r, end,
-        );
+        let end = run_end(place, r, row.most);
+        let shared = Shared {
+            first: &first,
+            second: &second,
+            locals,
+            zero,
+        };
+        fill_run(row, &shared, current, choices, r, end);
         r = end + 1;
     }
 }

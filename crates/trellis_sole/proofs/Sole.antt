@@ -8,11 +8,10 @@ use native.Mathlib.Omega.{arith}
 use borrow.Author.Tests.{eqb-true}
 use lib.IntN.{ℤ, pos}
 use lib.Dec.{T, eqb, lit<}
-use lib.ListN.{length, get_or, take}
+use lib.ListN.{length, get_or}
 use lib.Ieee.{Float, fin, inf, lt, add, binary32}
 use lib.Ieee.Fits.{mul-fits}
 use lib.Ieee.Scale.{finite}
-use Rattle.candidates.specs.declared.Candidates.{Candidates}
 use Rattle.costs.specs.Cost.{cost}
 use Rattle.costs.proofs.Order.{lt-inf, inf-lt}
 use Rattle.costs.proofs.Sum.{add-cost, add-inf, add-zero}
@@ -23,7 +22,6 @@ use Rattle.prices.specs.Book.{Book}
 use Rattle.prices.specs.declared.Pair.{Pair}
 use Rattle.block.specs.Cost.{distortion_of}
 use Rattle.steps.specs.Place.{distortion_at, context_at, rated_in, local_in, local_at}
-use Rattle.steps.specs.Plan.{listed, Usable}
 use Rattle.steps.specs.declared.Place.{Place}
 use Rattle.trellis_choice.specs.Chosen.{state_cost, state_level, nonzero_cost, zero_cost, Settled}
 use Rattle.trellis_row.specs.Row.{tail_at, nonzero_tail, zero_tail, Workable}
@@ -33,12 +31,10 @@ use Rattle.trellis_row.proofs.Rows.{not-below, nonzero-tail-cost, zero-tail-cost
 use Rattle.trellis_sole.specs.Sole.{sole_tail, sole_chosen, sole_states, token_in, TokenIs, SoleReady}
 
 -- the list of one candidate
-one_of : (levels : List ℤ) → length levels ≡ 5 → take 1 levels ≡ get_or levels 0 (pos 0) ∷ []
-one_of [] e = absurd (omega arith)
-one_of (q ∷ qs) e = refl
-
-pub listed-one : {c : Candidates} → Usable c → c.count ≡ 1 → listed c ≡ get_or c.levels 0 (pos 0) ∷ []
-listed-one {c} u e = ap (λ (n : ℕ). take n c.levels) e ∙ one_of c.levels u.five
+pub one-of : (levels : List ℤ) → length levels ≡ 1 → levels ≡ get_or levels 0 (pos 0) ∷ []
+one-of [] e = absurd (omega arith)
+one-of (q ∷ []) e = refl
+one-of (q ∷ r ∷ qs) e = absurd (omega arith)
 
 below_inf : (x : Float) → T (cost x) → cond (lt x (inf false)) x (inf false) ≡ x
 below_inf x C = go (lt x (inf false)) refl
@@ -195,14 +191,14 @@ pub count-first : {n : ℕ} → n ≡ 1 → 0 < n
 count-first e = rw e (lit< tt)
 
 -- a count of a row that can be worked out
-pub sole-ready : {book : Book} {x : Place} {c : Candidates} {next : List Float} {s : Span} {most : ℕ} (n context : ℕ) {d : Float} {token : Pair} → Workable book x c next s most → c.count ≡ 1 → n ≤ most
-    → context_at x n ≡ context → d ≡ distortion_at x (get_or c.levels 0 (pos 0)) → TokenIs book x context (get_or c.levels 0 (pos 0)) token
-    → SoleReady book x next s (get_or c.levels 0 (pos 0)) d token n
-sole-ready {book} {x} {c} {next} {s} {most} n context {d} {token} w one h e f t =
+pub sole-ready : {book : Book} {x : Place} {levels : List ℤ} {next : List Float} {s : Span} {most : ℕ} (n context : ℕ) {d : Float} {token : Pair} → Workable book x levels next s most → length levels ≡ 1 → n ≤ most
+    → context_at x n ≡ context → d ≡ distortion_at x (get_or levels 0 (pos 0)) → TokenIs book x context (get_or levels 0 (pos 0)) token
+    → SoleReady book x next s (get_or levels 0 (pos 0)) d token n
+sole-ready {book} {x} {levels} {next} {s} {most} n context {d} {token} w one h e f t =
     record {
-      local = λ p P. w.locals n p _ h P (rw (listed-one w.usable one) (here refl));
+      local = λ p P. w.locals n p _ h P (rw (one-of levels one) (here refl));
       nonzero_follows = nonzero-tail-cost w n;
       zero_follows = zero-tail-cost w _ n;
       distortion_is = f;
-      token_is = subst⁻¹ (λ (k : ℕ). TokenIs book x k (get_or c.levels 0 (pos 0)) token) e t;
+      token_is = subst⁻¹ (λ (k : ℕ). TokenIs book x k (get_or levels 0 (pos 0)) token) e t;
     }

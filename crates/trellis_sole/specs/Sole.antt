@@ -8,7 +8,7 @@ use Rattle.prices.specs.Book.{Book}
 use Rattle.prices.specs.declared.Pair.{Pair}
 use Rattle.steps.specs.Place.{distortion_at, context_at, rated_in, local_at}
 use Rattle.steps.specs.declared.Place.{Place}
-use Rattle.trellis_choice.specs.declared.chosen.Chosen.{Chosen}
+use Rattle.steps.specs.declared.best.Best.{Best}
 use Rattle.trellis_row.specs.Row.{tail_at, nonzero_tail, zero_tail}
 use Rattle.trellis_row.specs.declared.row.Span.{Span}
 use Rattle.trellis_row.specs.declared.row.States.{States}
@@ -18,7 +18,7 @@ unfoldable pub sole_tail : ℤ → List Float → Span → ℕ → Float
 sole_tail q next s r = cond (eqb (nz q) 0) (tail_at next s r 0) (nonzero_tail next s r)
 
 -- a state of the sole level, the first of the list
-unfoldable pub sole_chosen : Float → Chosen
+unfoldable pub sole_chosen : Float → Best ℕ
 sole_chosen v = record { cost = v; choice = cond (lt v (inf false)) 0 255 }
 
 unfoldable pub sole_states : Float → Pair → Float → States

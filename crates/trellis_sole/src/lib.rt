@@ -3,43 +3,52 @@
 
 ghost use Rattle.std.specs.Prelude.{◌≡◌, ◌∷◌, [], ℕ, ◌+◌, ◌-◌, ◌*◌, ◌<◌, ◌≤◌, T, length};
 ghost use Rattle.bias.specs.Level.{is_level};
-ghost use Rattle.candidates.specs.Candidates.{in_array};
 ghost use Rattle.half_bytes.specs.Packed.{unpacked};
-ghost use Rattle.prices.specs.Book.{Book};
 ghost use Rattle.prices.specs.Contents.{contents};
-ghost use Rattle.trellis_choice.specs.Locals.{listed};
-ghost use Rattle.trellis_row.specs.Row.{RowIs, Elsewhere, Workable};
+ghost use Rattle.trellis_row.specs.Filled.{Fits, Begun, Filled};
+ghost use Rattle.trellis_row.specs.Row.{Elsewhere};
 ghost use Rattle.trellis_sole.specs.Sole.{sole_tail, sole_chosen, sole_states, TokenIs, SoleReady};
 
 use prices::Pair;
 use prices::book::PriceBook;
 use steps::Place;
-use trellis_choice::chosen::Chosen;
+use steps::best::Best;
 use trellis_row::row;
-use trellis_row::row::{Span, States};
+use trellis_row::row::States;
+use trellis_row::work::Row;
+
+// The one level, its distortion, and its token's rated prices in the context that some counts share.
+#[derive(Clone, Copy)]
+struct SoleLevel {
+    level: i32,
+    distortion: f32,
+    token: Pair,
+    ghost is_level: { T (is_level level) },
+}
 
 // What follows the level where r remain.
-fn tail_of(next: &[f32], span: Span, r: usize, level: i32) -> f32
-    requires { (span.base ≤ span.from) × (span.from ≤ span.upto → 2 * (span.upto - span.base) + 1 < length next.now) }
-    ensures { result ≡ sole_tail level next.now span r }
+fn tail_of(row: &Row, r: usize, level: i32) -> f32
+    ensures { result ≡ sole_tail level row.now.next.now row.now.span r }
 {
     if level == 0 {
-        return row::tail_at(next, span, r, 0);
+        return row.tail_at(r, 0);
     }
-    row::nonzero_tail(next, span, r)
+    row.nonzero_tail(r)
 }
 
 // A state of the sole level: its index where the cost is finite, else 255.
-fn chosen(cost: f32) -> Chosen
+#[tactic(auto, unfolding(crate::specs::Sole::sole_chosen))]
+fn chosen(cost: f32) -> Best<u8>
     ensures { result ≡ sole_chosen cost }
 {
     if cost < costs::infinity() {
-        return Chosen { cost, choice: 0 };
+        return Best { cost, choice: 0 };
     }
-    Chosen { cost, choice: 255 }
+    Best { cost, choice: 255 }
 }
 
 // The two states of a count: distortion and token first, as in every sum of a local cost, then what follows.
+#[tactic(auto, unfolding(crate::specs::Sole::sole_states))]
 fn states_of(distortion: f32, token: Pair, tail: f32) -> States
     ensures { result ≡ sole_states distortion token tail }
 {
@@ -64,134 +73,87 @@ fn token_of(book: &PriceBook, place: Place, context: usize, level: i32) -> Pair
     place.rated_pair(book, context, level)
 }
 
-// The two states of count `r`, written behind those of the counts from `least` on.
-fn row_state(
-    level: i32,
-    distortion: f32,
-    token: Pair,
-    next: &[f32],
-    span: Span,
-    current: &mut [f32],
-    choices: &mut [u8],
-    at: usize,
-    least: usize,
-    r: usize,
-)
-    requires base_le_from { (span.base ≤ span.from) × (span.from ≤ span.upto → 2 * (span.upto - span.base) + 1 < length next.now) }
-    requires least_le_r { (least ≤ r) × ((2 * (r - least) + 1 < length current.old) × (2 * at + 2 * (r - least) + 1 < length (unpacked choices.old))) }
-    requires t { T (is_level level) }
+// The two states of count `r`, written behind those of the counts before it.
+fn row_state(row: &Row, sole: SoleLevel, current: &mut [f32], choices: &mut [u8], r: usize)
+    requires r_within { (row.now.least ≤ r) × (r ≤ row.now.most) }
+    requires fits { Fits row.now current.old choices.old }
+    requires only { row.now.candidates.levels.now ≡ sole.level ∷ [] }
     ensures current_len_unchanged { length current.new ≡ length current.old }
-    ensures elsewhere { Elsewhere (2 * at + 2 * (r - least)) 2 (unpacked choices.old) (unpacked choices.new) }
-    ensures row_is { (book : Book) (x : Place) → SoleReady book x next.now span level distortion token r
-        → RowIs book x (level ∷ []) next.now span least (2 * at) (2 * (r - least)) current.old (unpacked choices.old)
-        → RowIs book x (level ∷ []) next.now span least (2 * at) (2 * (r - least) + 2) current.new (unpacked choices.new) }
+    ensures elsewhere { Elsewhere (2 * row.now.at + 2 * (r - row.now.least)) 2 (unpacked choices.old) (unpacked choices.new) }
+    ensures begun { SoleReady (contents row.now.book.now) row.now.place row.now.next.now row.now.span sole.level sole.distortion sole.token r
+        → Begun row.now (2 * (r - row.now.least)) current.old choices.old → Begun row.now (2 * (r - row.now.least) + 2) current.new choices.new }
 {
-    let tail = tail_of(next, span, r, level);
+    let tail = tail_of(row, r, sole.level);
     if tail < costs::infinity() {
         row::write_pair(
             current,
             choices,
-            r - least,
-            at,
-            states_of(distortion, token, tail),
+            r - row.least,
+            row.at,
+            states_of(sole.distortion, sole.token, tail),
         );
         return;
     }
-    row::write_pair(current, choices, r - least, at, row::unreachable());
+    row::write_pair(current, choices, r - row.least, row.at, row::unreachable());
 }
 
 // The states of the counts from `from` to `upto`, which share the token's prices.
 fn fill_run(
-    level: i32,
-    distortion: f32,
-    token: Pair,
-    next: &[f32],
-    span: Span,
+    row: &Row,
+    sole: SoleLevel,
     current: &mut [f32],
     choices: &mut [u8],
-    at: usize,
-    least: usize,
     from: usize,
     upto: usize,
 )
-    requires base_le_from { (span.base ≤ span.from) × (span.from ≤ span.upto → 2 * (span.upto - span.base) + 1 < length next.now) }
-    requires least_le_from { (least ≤ from) × ((from ≤ upto) × (upto ≤ 131072)) }
-    requires least_in_bounds { (2 * (upto - least) + 1 < length current.old) × (2 * at + 2 * (upto - least) + 1 < length (unpacked choices.old)) }
-    requires t { T (is_level level) }
+    requires from_within { (row.now.least ≤ from) × ((from ≤ upto) × (upto ≤ row.now.most)) }
+    requires fits { Fits row.now current.old choices.old }
+    requires only { row.now.candidates.levels.now ≡ sole.level ∷ [] }
     ensures current_len_unchanged { length current.new ≡ length current.old }
-    ensures elsewhere { Elsewhere (2 * at + 2 * (from - least)) (2 * (upto + 1 - from)) (unpacked choices.old) (unpacked choices.new) }
-    ensures by_index { (book : Book) (x : Place) → ((r : ℕ) → from ≤ r → r ≤ upto → SoleReady book x next.now span level distortion token r)
-        → RowIs book x (level ∷ []) next.now span least (2 * at) (2 * (from - least)) current.old (unpacked choices.old)
-        → RowIs book x (level ∷ []) next.now span least (2 * at) (2 * (upto + 1 - least)) current.new (unpacked choices.new) }
+    ensures elsewhere { Elsewhere (2 * row.now.at + 2 * (from - row.now.least)) (2 * (upto + 1 - from)) (unpacked choices.old) (unpacked choices.new) }
+    ensures begun { ((r : ℕ) → from ≤ r → r ≤ upto → SoleReady (contents row.now.book.now) row.now.place row.now.next.now row.now.span sole.level sole.distortion sole.token r)
+        → Begun row.now (2 * (from - row.now.least)) current.old choices.old → Begun row.now (2 * (upto + 1 - row.now.least)) current.new choices.new }
 {
     for r in from..=upto {
-        row_state(
-            level, distortion, token, next, span, current, choices, at, least, r,
-        );
+        row_state(row, sole, current, choices, r);
     }
 }
 
-// The states of the counts from `least` to `most` of a position with one candidate.
-fn fill_sole(
-    book: &PriceBook,
-    place: Place,
-    levels: &[i32; 5],
-    next: &[f32],
-    span: Span,
-    current: &mut [f32],
-    choices: &mut [u8],
-    at: usize,
-    least: usize,
-    most: usize,
-)
-    requires workable { Workable (contents book.now) place (in_array 1 levels.now) next.now span most }
-    requires least_le_most { (least ≤ most) × ((2 * (most - least) + 1 < length current.old) × (2 * at + 2 * (most - least) + 1 < length (unpacked choices.old))) }
-    ensures current_len_unchanged { length current.new ≡ length current.old }
-    ensures elsewhere { Elsewhere (2 * at) (2 * (most + 1 - least)) (unpacked choices.old) (unpacked choices.new) }
-    ensures row_is { RowIs (contents book.now) place (listed (in_array 1 levels.now)) next.now span least (2 * at) (2 * (most + 1 - least)) current.new (unpacked choices.new) }
+// The states of a position with one candidate.
+fn fill_sole(row: &Row, current: &mut [f32], choices: &mut [u8])
+    requires one { length row.now.candidates.levels.now ≡ 1 }
+    requires fits { Fits row.now current.old choices.old }
+    ensures { Filled row.now current.old current.new choices.old choices.new }
 {
-    let level = levels[0];
+    let candidates = row.candidates;
+    let place = row.place;
+    let level = candidates.levels[0];
     let distortion = place.distortion(level);
     // By runs of counts, not count by count.
-    let mut r = least;
-    while r <= most {
+    let mut r = row.least;
+    while r <= row.most {
         let context = place.context(r);
-        let token = token_of(book, place, context, level);
-        let end = row::run_end(place, r, most);
-        fill_run(
-            level, distortion, token, next, span, current, choices, at, least, r, end,
-        );
+        let token = token_of(row.book, place, context, level);
+        let end = row::run_end(place, r, row.most);
+        let sole = SoleLevel {
+            level,
+            distortion,
+            token,
+        };
+        fill_run(row, sole, current, choices, r, end);
         r = end + 1;
     }
 }
 
-// The states of the counts from `least` to `most`: their costs from the front of `current`, their choices from byte `at` on.
-pub fn fill_row(
-    book: &PriceBook,
-    place: Place,
-    levels: &[i32; 5],
-    count: usize,
-    next: &[f32],
-    span: Span,
-    current: &mut [f32],
-    choices: &mut [u8],
-    at: usize,
-    least: usize,
-    most: usize,
-)
-    requires workable { Workable (contents book.now) place (in_array count levels.now) next.now span most }
-    requires least_le_most { (least ≤ most) × ((2 * (most - least) + 1 < length current.old) × (2 * at + 2 * (most - least) + 1 < length (unpacked choices.old))) }
-    ensures current_len_unchanged { length current.new ≡ length current.old }
-    ensures elsewhere { Elsewhere (2 * at) (2 * (most + 1 - least)) (unpacked choices.old) (unpacked choices.new) }
-    ensures row_is { RowIs (contents book.now) place (listed (in_array count levels.now)) next.now span least (2 * at) (2 * (most + 1 - least)) current.new (unpacked choices.new) }
+// The row's states: their costs from the front of `current`, their choices from the row's byte on.
+pub fn fill_row(row: &Row, current: &mut [f32], choices: &mut [u8])
+    requires { Fits row.now current.old choices.old }
+    ensures { Filled row.now current.old current.new choices.old choices.new }
 {
-    if count == 1 {
-        fill_sole(
-            book, place, levels, next, span, current, choices, at, least, most,
-        );
+    let candidates = row.candidates;
+    if candidates.levels.len() == 1 {
+        fill_sole(row, current, choices);
         return;
     }
-    row::fill_row(
-        book, place, levels, count, next, span, current, choices, at, least, most,
-    );
+    row::fill_row(row, current, choices);
 }

@@ -34,9 +34,10 @@ use Rattle.problem.specs.Tokens.{past_length}
 use Rattle.steps.specs.Place.{place_of, local_at}
 use Rattle.steps.specs.Plan.{Offered, Usable, listed}
 use Rattle.steps.specs.declared.Place.{Place}
-use Rattle.steps.specs.declared.reading.Plan.{Plan}
+use Rattle.steps.specs.declared.plan.Plan.{Plan}
 use Rattle.steps.specs.declared.reading.Offer.{Offer}
 use Rattle.steps.proofs.Local.{local-is}
+use Rattle.steps.proofs.Listed.{pickable-of}
 use Rattle.trellis_row.specs.Row.{nonzero_tail, RowIs, Elsewhere, Workable}
 use Rattle.trellis_row.specs.Table.{RowFor, ChoicesFor}
 use Rattle.trellis_row.specs.declared.row.Span.{Span}
@@ -371,16 +372,16 @@ module _ {hw : ℕ} {book : Book} {b : Block} {p : Plan} (K : Rowable hw book b 
       unfolding past_length
       fits = fits_in _ _ p.window.length i (covered b) last.far h (past-most p.window b) P.window.fits
 
-      pub working : Workable book place (in_array offer.count offered) next s c.most
+      pub working : Workable book place (listed (in_array offer.count offered)) next s c.most
       unfolding place_of
       working =
           record {
             priced = K.checked.book_passed;
-            usable = U;
+            pickable = pickable-of U;
             covers = rw (place_is, ← K.checked.planned.covered_is) K.checked.planned.covers;
             coded = rw place_is (omega arith);
             left = rw place_is fits;
-            offset = rw (place_is, ← K.checked.planned.offset_is) K.checked.coded.offset;
+            offset = rw (place_is, ← K.checked.planned.offset_is) p.coded.offset;
             locals = λ r q z k Q m. rw place_is (subst⁻¹ (λ (y : Float). T (cost y)) (local-is book b p.log2 i r q z Q) (local-cost i r q z h (subst (Mem z) S.listed_is m)));
             starts = subst⁻¹ (λ (n' : ℕ). n' ≤ s.from) sb C.row-lower;
             room = λ k. row_room hw _ _ _ _ _ sb C.row-upper R.narrow long;

@@ -16,7 +16,7 @@ use Rattle.least_cost.specs.Search.{Problem, best, least, holder, up_from, total
 use Rattle.prices.specs.Book.{Book}
 use Rattle.problem.proofs.Problem.{past-most}
 use Rattle.problem.specs.Tokens.{past_length}
-use Rattle.steps.specs.declared.reading.Plan.{Plan}
+use Rattle.steps.specs.declared.plan.Plan.{Plan}
 use Rattle.weights.specs.declared.Window.{Window}
 use Rattle.search_checks.proofs.Checked.{bit-few, window-some, first_is}
 use Rattle.trellis_table.specs.Rows.{Rowable, RowAt, CountsAt}

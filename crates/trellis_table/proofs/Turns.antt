@@ -21,9 +21,11 @@ use Rattle.prices.specs.Book.{Book}
 use Rattle.trellis_row.specs.Row.{Elsewhere}
 use Rattle.trellis_row.specs.Table.{RowFor}
 use Rattle.search_checks.specs.Checked.{positions}
-use Rattle.steps.specs.declared.reading.Plan.{Plan}
+use Rattle.steps.specs.declared.plan.Plan.{Plan}
 use Rattle.weights.specs.declared.Window.{Window}
-use Rattle.trellis_table.specs.Rows.{RowAt, ChosenAt, ChosenFrom, Stepped, Rowed, TailRow, TailFor, NextFor}
+use Rattle.trellis_table.specs.Rows.{RowAt, ChosenAt, ChosenFrom, Stepped, Rowed, TailRow, TailFor, NextFor, live_of}
+use Rattle.trellis_table.specs.declared.exchange.Live.{Live}
+use Rattle.trellis_table.specs.declared.exchange.Live.TheVariants.{First, Second}
 use Rattle.trellis_table.specs.declared.position.Counts.{Counts}
 use Rattle.trellis_table.specs.declared.position.Step.{Step}
 
@@ -51,8 +53,8 @@ tail-pair w (suc zero) h = w.one
 tail-pair w (suc (suc p)) h = absurd (not-suc-le-zero (le_of_suc-le-suc h))
 
 pub rowed-start : (hw : ℕ) (v : Window) (book : Book) (b : Block) (past : ℕ) (first second : List Float) (choices : List ℕ) → past ≡ past_window v b → TailRow v book b first
-    → Rowed hw v book b v.length first second choices (record { counts = record { least = past; most = past }; after = past }) true
-unfolding tail_of past_window
+    → Rowed hw v book b v.length first second choices (record { counts = record { least = past; most = past }; after = past }) First
+unfolding tail_of past_window live_of
 rowed-start hw v book b past first second choices e w =
     record {
       live =
@@ -115,16 +117,18 @@ from_tail t a r = record { searched = t.searched; past_is = t.past_is; after_is 
 again : (i : ℕ) → 0 < i → suc (i - 1) ≡ i
 again i h = omega arith
 
-module _ {hw : ℕ} {v : Window} {book : Book} {b : Block} {i : ℕ} {first second : List Float} {choices : List ℕ} {s : Step} {in_first : Bool} (h : 0 < i) (w : Rowed hw v book b i first second choices s in_first) where
-  pub from_first : in_first ≡ true → RowAt hw v book b (suc (i - 1)) first s.counts
+module _ {hw : ℕ} {v : Window} {book : Book} {b : Block} {i : ℕ} {first second : List Float} {choices : List ℕ} {s : Step} {which : Live} (h : 0 < i) (w : Rowed hw v book b i first second choices s which) where
+  pub from_first : which ≡ First → RowAt hw v book b (suc (i - 1)) first s.counts
+  unfolding live_of
   from_first e =
       subst⁻¹ (λ (k : ℕ). RowAt hw v book b k first s.counts) (again i h)
-      (subst (λ (t : Bool). RowAt hw v book b i (cond t first second) s.counts) e w.live)
+      (subst (λ (t : Live). RowAt hw v book b i (live_of t first second) s.counts) e w.live)
 
-  pub from_second : in_first ≡ false → RowAt hw v book b (suc (i - 1)) second s.counts
+  pub from_second : which ≡ Second → RowAt hw v book b (suc (i - 1)) second s.counts
+  unfolding live_of
   from_second e =
       subst⁻¹ (λ (k : ℕ). RowAt hw v book b k second s.counts) (again i h)
-      (subst (λ (t : Bool). RowAt hw v book b i (cond t first second) s.counts) e w.live)
+      (subst (λ (t : Live). RowAt hw v book b i (live_of t first second) s.counts) e w.live)
 
   pub after-back : s.after ≡ input_remaining b (covered b + suc (i - 1))
   after-back = w.after_is ∙ ap (λ (k : ℕ). input_remaining b (covered b + k)) (sym (again i h))
@@ -132,8 +136,10 @@ module _ {hw : ℕ} {v : Window} {book : Book} {b : Block} {i : ℕ} {first seco
   chosen-back : ChosenFrom hw v book b (suc (i - 1)) choices
   chosen-back = subst⁻¹ (λ (k : ℕ). ChosenFrom hw v book b k choices) (again i h) w.chosen
 
-  pub to-second : {row row' : List Float} {choices' : List ℕ} {s' : Step} → Stepped hw v book b (i - 1) row row' choices choices' s' → Rowed hw v book b (i - 1) first row' choices' s' false
+  pub to-second : {row row' : List Float} {choices' : List ℕ} {s' : Step} → Stepped hw v book b (i - 1) row row' choices choices' s' → Rowed hw v book b (i - 1) first row' choices' s' Second
+  unfolding live_of
   to-second x = record { live = x.row_is; chosen = chosen_more x.elsewhere x.chosen chosen-back; after_is = x.after_is; counts_are = λ _. x.counts_are }
 
-  pub to-first : {row row' : List Float} {choices' : List ℕ} {s' : Step} → Stepped hw v book b (i - 1) row row' choices choices' s' → Rowed hw v book b (i - 1) row' second choices' s' true
+  pub to-first : {row row' : List Float} {choices' : List ℕ} {s' : Step} → Stepped hw v book b (i - 1) row row' choices choices' s' → Rowed hw v book b (i - 1) row' second choices' s' First
+  unfolding live_of
   to-first x = record { live = x.row_is; chosen = chosen_more x.elsewhere x.chosen chosen-back; after_is = x.after_is; counts_are = λ _. x.counts_are }

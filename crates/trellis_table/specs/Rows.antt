@@ -1,5 +1,5 @@
 -- The rows of the trellis: which counts the row of each position holds, and what the rows and choices stand for, for a band of half-width w and a window v.
-use Rattle.std.specs.Prelude.{ℕ, suc, ◌+◌, ◌-◌, ◌*◌, ◌≤◌, ◌<◌, max, min, ◌≡◌, Bool, cond, not, List, ◌∷◌, length, get_or, T, ltb, ℤ, Float}
+use Rattle.std.specs.Prelude.{ℕ, suc, ◌+◌, ◌-◌, ◌*◌, ◌≤◌, ◌<◌, max, min, ◌≡◌, cond, not, List, ◌∷◌, length, get_or, T, ltb, ℤ, Float}
 use Rattle.std.specs.Float.{nan}
 use Rattle.std.specs.Float.Ieee.Scale.{finite}
 use Rattle.block.specs.Block.{Block, covered, input_remaining}
@@ -10,10 +10,12 @@ use Rattle.least_cost.specs.Position.{nz}
 use Rattle.least_cost.specs.Search.{Problem, best}
 use Rattle.prices.specs.Book.{Book}
 use Rattle.search_checks.specs.Checked.{positions, Checked, Searched}
-use Rattle.steps.specs.declared.reading.Plan.{Plan}
+use Rattle.steps.specs.declared.plan.Plan.{Plan}
 use Rattle.trellis_row.specs.Row.{Elsewhere}
 use Rattle.trellis_row.specs.Table.{RowFor, ChoicesFor}
 use Rattle.weights.specs.declared.Window.{Window}
+use Rattle.trellis_table.specs.declared.exchange.Live.{Live}
+use Rattle.trellis_table.specs.declared.exchange.Live.TheVariants.{First, Second}
 use Rattle.trellis_table.specs.declared.position.Counts.{Counts}
 use Rattle.trellis_table.specs.declared.position.Step.{Step}
 
@@ -84,9 +86,14 @@ pub record Stepped (w : ℕ) (v : Window) (book : Book) (b : Block) (i : ℕ) (r
 pub record ChosenFrom (w : ℕ) (v : Window) (book : Book) (b : Block) (i : ℕ) (choices : List ℕ) : Type 0 where
   pub each : (j : ℕ) → i ≤ j → j < v.length → ChosenAt w v book b j choices
 
--- the positions from i on are done: the live row is the first where `in_first`, else the second
-pub record Rowed (w : ℕ) (v : Window) (book : Book) (b : Block) (i : ℕ) (first second : List Float) (choices : List ℕ) (s : Step) (in_first : Bool) : Type 0 where
-  pub live : RowAt w v book b i (cond in_first first second) s.counts
+-- the row that is live, of two
+unfoldable pub live_of : Live → List Float → List Float → List Float
+live_of First first second = first
+live_of Second first second = second
+
+-- the positions from i on are done, and which row is live
+pub record Rowed (w : ℕ) (v : Window) (book : Book) (b : Block) (i : ℕ) (first second : List Float) (choices : List ℕ) (s : Step) (which : Live) : Type 0 where
+  pub live : RowAt w v book b i (live_of which first second) s.counts
   pub chosen : ChosenFrom w v book b i choices
   pub after_is : s.after ≡ input_remaining b (covered b + i)
   pub counts_are : i < v.length → CountsAt w v b i s.counts

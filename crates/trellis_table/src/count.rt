@@ -7,7 +7,7 @@ ghost use Rattle.trellis_table.specs.Rows.{FirstRow, problem_in};
 use crate::position::Counts;
 use prices::book::PriceBook;
 use steps::best::Best;
-use steps::reading::Plan;
+use steps::plan::Plan;
 
 // The least cost with count `n`.
 fn total_of(book: &PriceBook, plan: Plan, live: &[f32], counts: Counts, n: usize) -> f32

@@ -1,18 +1,16 @@
 // One position of the trellis, its row from the row after it.
 ghost use Rattle.std.specs.Prelude.{◌≡◌, cond, eqb, ◌+◌, ◌-◌, ◌*◌, ◌<◌, ◌≤◌, max, min, length};
 ghost use Rattle.block.specs.Checks.{choice_bytes, states};
-ghost use Rattle.candidates.specs.Candidates.{in_array};
-ghost use Rattle.half_bytes.specs.Packed.{unpacked};
 ghost use Rattle.prices.specs.Contents.{contents};
-ghost use Rattle.trellis_choice.specs.Locals.{listed};
-ghost use Rattle.trellis_row.specs.Row.{RowIs, Elsewhere, Workable};
+ghost use Rattle.trellis_row.specs.Filled.{Fits, Filled};
 ghost use Rattle.trellis_table.specs.Rows.{least_count, rise_at, NextFor, Stepped};
 
 use block::BlockData;
 use prices::book::PriceBook;
-use steps::Place;
-use steps::reading::Plan;
+use steps::plan::Plan;
+use steps::reading::CandidateList;
 use trellis_row::row::Span;
+use trellis_row::work::Row;
 
 // The counts that a row holds.
 #[derive(Clone, Copy)]
@@ -28,6 +26,7 @@ pub struct Step {
     pub after: usize,
 }
 
+#[tactic(auto, unfolding(crate::specs::Rows::least_count))]
 pub fn least_count(past: usize, after: usize, width: usize) -> usize
     ensures { result ≡ least_count width past after }
 {
@@ -76,84 +75,73 @@ fn span_of(after: usize, next: Counts, width: usize) -> Span
     }
 }
 
-// A row of a position: factored, or edge by edge.
-fn fill_row(
-    factored: bool,
-    book: &PriceBook,
-    place: Place,
-    levels: &[i32; 5],
-    count: usize,
-    next: &[f32],
-    span: Span,
-    current: &mut [f32],
-    choices: &mut [u8],
-    at: usize,
-    least: usize,
-    most: usize,
-)
-    requires workable { Workable (contents book.now) place (in_array count levels.now) next.now span most }
-    requires least_le_most { (least ≤ most) × ((2 * (most - least) + 1 < length current.old) × (2 * at + 2 * (most - least) + 1 < length (unpacked choices.old))) }
-    ensures current_len_unchanged { length current.new ≡ length current.old }
-    ensures elsewhere { Elsewhere (2 * at) (2 * (most + 1 - least)) (unpacked choices.old) (unpacked choices.new) }
-    ensures row_is { RowIs (contents book.now) place (listed (in_array count levels.now)) next.now span least (2 * at) (2 * (most + 1 - least)) current.new (unpacked choices.new) }
-{
-    if factored {
-        trellis_sole::fill_row(
-            book, place, levels, count, next, span, current, choices, at, least, most,
-        );
-        return;
-    }
-    trellis_edges::fill_row(
-        book, place, levels, count, next, span, current, choices, at, least, most,
-    );
+// How a row is worked out. Both walks find the same costs and choices.
+#[derive(Clone, Copy, Debug, PartialEq, Eq)]
+pub enum Walk {
+    // By runs of counts that share their local costs.
+    Factored,
+    // Edge by edge.
+    Unfactored,
 }
 
+// A row of a position, by either walk.
+fn fill_row(walk: Walk, row: &Row, current: &mut [f32], choices: &mut [u8])
+    requires { Fits row.now current.old choices.old }
+    ensures { Filled row.now current.old current.new choices.old choices.new }
+{
+    match walk {
+        Walk::Factored => trellis_sole::fill_row(row, current, choices),
+        Walk::Unfactored => trellis_edges::fill_row(row, current, choices),
+    }
+}
+
+// Position `i`, from the row behind it, which is `next`. What all positions share comes one by one: a struct of it would have a lifetime for each reference.
 pub fn take_position(
-    factored: bool,
+    walk: Walk,
     book: &PriceBook,
     block: &BlockData,
     levels: &[i32],
     plan: Plan,
     past: usize,
     i: usize,
-    after: usize,
+    behind: Step,
     next: &[f32],
-    next_counts: Counts,
     current: &mut [f32],
     choices: &mut [u8],
     width: usize,
 ) -> Step
     requires width_bound { (width ≤ 12) × (i < plan.window.length) }
-    requires next_for { NextFor width (contents book.now) block.now.scan.now block.now.source.now block.now.inv_qm.now levels.now plan past i after next.now next_counts }
+    requires next_for { NextFor width (contents book.now) block.now.scan.now block.now.source.now block.now.inv_qm.now levels.now plan past i behind.after next.now behind.counts }
     requires width_in_bounds { (states width ≤ length next.now) × ((states width ≤ length current.old) × (choice_bytes width * i + choice_bytes width ≤ length choices.old)) }
-    ensures { (t : NextFor width (contents book.now) block.now.scan.now block.now.source.now block.now.inv_qm.now levels.now plan past i after next.now next_counts)
+    ensures { (t : NextFor width (contents book.now) block.now.scan.now block.now.source.now block.now.inv_qm.now levels.now plan past i behind.after next.now behind.counts)
         → Stepped width plan.window (contents book.now) t.searched.block i current.old current.new choices.old choices.new result }
 {
     let mut offered = [0i32; 5];
     let offer = plan.offer(block, levels, i, &mut offered);
     let place = plan.place(i, offer.ideal, offer.level);
     let window = plan.window;
-    let span = span_of(after, next_counts, width);
+    let after = behind.after;
+    let span = span_of(after, behind.counts, width);
     let left = window.length - 1 - i;
     let rise = rise(window.restoring, i, offer.level);
     let counts = Counts {
         least: least_count(past, after, width),
         most: last_count(i, past, after, left, width, span.upto, rise),
     };
-    fill_row(
-        factored,
+    let candidates = CandidateList {
+        levels: &offered[..offer.count],
+    };
+    let row = Row {
         book,
         place,
-        &offered,
-        offer.count,
+        candidates,
         next,
         span,
-        current,
-        choices,
-        (2 * width + 2) * i,
-        counts.least,
-        counts.most,
-    );
+        at: (2 * width + 2) * i,
+        least: counts.least,
+        most: counts.most,
+    };
+    fill_row(walk, &row, current, choices);
     Step {
         counts,
         after: after + steps::nonzero(offer.level),

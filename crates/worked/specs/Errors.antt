@@ -1,5 +1,5 @@
 -- Five plausible errors in reading document 01 (its "Plausible errors to exclude"), each as the definition would be with it. Definitions only.
-use Rattle.std.specs.Prelude.{ℕ, zero, suc, ◌+◌, ◌-◌, max, min, false, cond, List, [], ◌∷◌, ◌++◌, eqb, ℤ, pos, Float}
+use Rattle.std.specs.Prelude.{ℕ, suc, ◌+◌, ◌-◌, max, min, false, cond, List, [], ◌∷◌, ◌++◌, eqb, ℤ, pos, Float}
 use Rattle.std.specs.Float.{inf, binary32}
 use Rattle.std.specs.Float.Ieee.{add, mul}
 use Rattle.block.specs.Block.{Block, covered, input_remaining}

@@ -1,4 +1,4 @@
-use Rattle.std.proofs.Common.{◌≡◌, ◌∙◌, sym, Err, arith}
+use Rattle.std.proofs.Common.{◌≡◌, sym, Err, arith}
 use Rattle.block_checks.proofs.Laws.{passed}
 use Rattle.refusals.proofs.Numbers.{number_positive}
 use Rattle.search_checks.proofs.Refusing.{accepted-checked, accepted-room, room_of}

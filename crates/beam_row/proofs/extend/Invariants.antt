@@ -14,5 +14,5 @@ use Rattle.beam_row.proofs.extend.Given as given
 abbrev pub invariant-loop-j : given.invariant-loop-j
 invariant-loop-j l =
     (l.kept.count ≡ l.j)
-    × ((q : Position) (xs : List Path) → Stands (contents l.book) (spot_of l.place 1 l.levels) q → PathsFor xs l.paths
+    × ((q : Position) (xs : List Path) → Stands (contents l.book) (spot_of l.place l.candidates.levels.now) q → PathsFor xs l.paths
     → KeptIs q xs (extended q (get_or q.candidates 0 (pos 0)) (take l.j xs)) l.kept)

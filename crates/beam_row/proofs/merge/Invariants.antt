@@ -14,7 +14,6 @@ use Rattle.beam_row.proofs.merge.Given as given
 
 abbrev pub invariant-loop-n : given.invariant-loop-n
 invariant-loop-n l =
-    (l.kept.count ≤ 3)
-    × ((l.many ≤ 3 → l.kept.count ≡ l.n-index)
-    × ((q : Position) (xs : List Path) → Stands (contents l.book) (spot_of l.place l.count l.levels) q → PathsFor xs l.paths
-    → KeptIs q xs (so_far l.many (merged_at q (ways xs q.candidates) (take l.n-index (counts_named [] xs)))) l.kept))
+    (l.many ≤ 3 → l.kept.count ≡ l.n-index)
+    × ((q : Position) (xs : List Path) → Stands (contents l.fn.book) (spot_of l.fn.place l.fn.candidates.levels.now) q → PathsFor xs l.paths
+    → KeptIs q xs (so_far l.many (merged_at q (ways xs q.candidates) (take l.n-index (counts_named [] xs)))) l.kept)

@@ -12,7 +12,7 @@ loop-i-init c = refl
 pub cluster_price-requires : goal.cluster_price-requires
 cluster_price-requires c =
     let row = c.requires (c.loop-i.i / 256) (omega arith) in
-    record { cluster_in_bounds = row.configured; cluster_in_bounds_2 = row.priced; cluster_value = row.valid; value_bound = omega arith }
+    record { configs_in_bounds = row.configured; symbols_in_bounds = row.priced; cluster_value = row.valid; value_bound = omega arith }
 
 pub loop-i-preserved : goal.loop-i-preserved
 unfolding ready_entry

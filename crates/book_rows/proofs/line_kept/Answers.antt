@@ -21,8 +21,3 @@ loop-i-preserved c =
     let loop = c.loop-i in
     let more = added c.same_bits.result in
     rw c.from-bad.ensures (omega (arith, more.0, loop.invariant.0), each-count (line_kept a.symbols.now a.ready.now a.from a.to a.extra) loop.i loop.bad _ loop.invariant.1 (sym c.same_bits.ensures ∙ more.1))
-
-pub returns : goal.returns
-returns c =
-    let all : c.loop-i.i ≡ c.args.count = omega arith in
-    sym (rw all at c.loop-i.invariant.1)

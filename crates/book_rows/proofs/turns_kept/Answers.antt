@@ -12,8 +12,3 @@ loop-i-preserved c = each_more _ _ c.loop-i.invariant (sym c.four_kept.ensures �
 
 pub returns-then-not-four_kept : goal.returns-then-not-four_kept
 returns-then-not-four_kept c = sym (each-fails _ _ c.loop-i.i c.loop-i-test.true (sym c.four_kept.ensures ∙ c.if-not-four_kept.true))
-
-pub returns : goal.returns
-returns c =
-    let all : c.loop-i.i ≡ c.args.fours = omega arith in
-    sym (rw all at c.loop-i.invariant)

@@ -1,5 +1,7 @@
 use mathlib.Core.Path.{refl, sym, ◌∙◌}
+use Rattle.std.proofs.Common.{rules}
 use Rattle.block.specs.Block.{covered}
+use Rattle.rooms.proofs.Given.{given_back}
 use Rattle.small.specs.Small.{check32}
 use Rattle.c_small.proofs.Results.{not-small, no-search, searched}
 use Rattle.c_small.proofs.rdoq_small_block.Goals as goal
@@ -15,6 +17,8 @@ returns-in-Err c = rw c.number-in-Err.ensures (no-search _ _ _ _ _ _ (sym c.is_s
 pub returns : goal.returns
 unfolding check32 covered
 returns c =
-    searched _ _ _ _ _ _ (sym c.is_small.ensures ∙ c.if-not-is_small.false) c.in-Ok.ensures c.rdoq_small_block-answer.ensures
+    let found = rw c.new-view.ensures at c.rdoq_small_block-answer.ensures.outcome in
+    searched _ _ _ _ _ _ (sym c.is_small.ensures ∙ c.if-not-is_small.false) c.in-Ok.ensures found
     (c.tell_answer.ensures.value, (c.tell_answer.ensures.cost_after, c.tell_answer.ensures.count_after))
     refl
+    (given_back _ c.rdoq_small_block-answer.new.room (search rules) (search rules) (search rules))

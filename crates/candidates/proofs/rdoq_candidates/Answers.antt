@@ -6,13 +6,11 @@ use Rattle.candidates.proofs.Levels.{current-size, in-back, wider}
 use Rattle.candidates.proofs.rdoq_candidates.Goals as goal
 
 pub list_candidates-count-requires : goal.list_candidates-count-requires
-list_candidates-count-requires c = let start = c.before in
-    let q = start.args.current in
-    record { is_ideal = start.requires.is_ideal; is_current = subst (λ (z : ℤ). T (is_current z)) (sym (in-back q (wider (current-size q start.requires.is_current)))) start.requires.is_current }
+list_candidates-count-requires c = let q = c.args.current in
+    record { is_ideal = c.requires.is_ideal; is_current = subst (λ (z : ℤ). T (is_current z)) (sym (in-back q (wider (current-size q c.requires.is_current)))) c.requires.is_current }
 
 pub returns : goal.returns
 returns c =
-    let start = c.before.before in
-    let q = start.args.current in
+    let q = c.args.current in
     c.list_candidates-count.ensures
-    ∙ ap (λ (z : ℤ). filled (filler z start.args.restore) (candidates_of start.args.ideal z start.args.restore)) (in-back q (wider (current-size q start.requires.is_current)))
+    ∙ ap (λ (z : ℤ). filled (filler z c.args.restore) (candidates_of c.args.ideal z c.args.restore)) (in-back q (wider (current-size q c.requires.is_current)))

@@ -41,16 +41,14 @@ tried x q e = rw e
 pub returns-then-is_settled : goal.returns-then-is_settled
 unfolding filled
 returns-then-is_settled c =
-    let start = c.before.before.before.before in
-    let q = start.args.current in
-    ap (λ (z : ℤ). record { levels = z ∷ z ∷ z ∷ z ∷ z ∷ []; count = 1 }) (in-back q (wider (current-size q start.requires.is_current)))
-    ∙ sym (ap (filled q) (alone start.args.ideal q (sym c.is_settled.ensures ∙ c.if-is_settled.true)))
+    let q = c.args.current in
+    ap (λ (z : ℤ). record { levels = z ∷ z ∷ z ∷ z ∷ z ∷ []; count = 1 }) (in-back q (wider (current-size q c.requires.is_current)))
+    ∙ sym (ap (filled q) (alone c.args.ideal q (sym c.is_settled.ensures ∙ c.if-is_settled.true)))
 
 pub with_zero-first-requires : goal.with_zero-first-requires
 with_zero-first-requires c =
-    let start = c.before.before.before.before in
-    let q = start.args.current in
-    subst (λ (z : ℤ). T (is_current z)) (sym (in-back q (wider (current-size q start.requires.is_current)))) start.requires.is_current
+    let q = c.args.current in
+    subst (λ (z : ℤ). T (is_current z)) (sym (in-back q (wider (current-size q c.requires.is_current)))) c.requires.is_current
 
 first-room : (t : Candidates) (q : ℤ) → t ≡ with_zero q → t.count ≤ 2
 first-room t q e = subst (λ (x : Candidates). x.count ≤ 2) (sym e) (with-zero-room q)
@@ -63,10 +61,9 @@ offered-second-requires c = let h = first-room _ _ c.with_zero-first.ensures in 
 
 pub overflow_sub-r : goal.overflow_sub-r
 overflow_sub-r c =
-    let rounded = c.before.before.before.before.before.before.before in
-    let x = rounded.args.ideal in
-    let r = rounded.round_half_away-r.result in
-    minus-sfits r (small x r (nearest_in x rounded.requires.is_ideal) rounded.round_half_away-r.ensures)
+    let x = c.args.ideal in
+    let r = c.round_half_away-r.result in
+    minus-sfits r (small x r (nearest_in x c.requires.is_ideal) c.round_half_away-r.ensures)
 
 pub offered-third-requires : goal.offered-third-requires
 offered-third-requires c =
@@ -76,10 +73,9 @@ offered-third-requires c =
 
 pub overflow_add-r : goal.overflow_add-r
 overflow_add-r c =
-    let rounded = c.before.before.before.before.before.before.before.before.before in
-    let x = rounded.args.ideal in
-    let r = rounded.round_half_away-r.result in
-    plus-sfits r (small x r (nearest_in x rounded.requires.is_ideal) rounded.round_half_away-r.ensures)
+    let x = c.args.ideal in
+    let r = c.round_half_away-r.result in
+    plus-sfits r (small x r (nearest_in x c.requires.is_ideal) c.round_half_away-r.ensures)
 
 pub offered-requires : goal.offered-requires
 offered-requires c =
@@ -104,14 +100,13 @@ steps q r t u v w h k e f g i =
 
 pub returns : goal.returns
 returns c =
-    let listed = c.before.before.before.before.before.before in
-    let tested = listed.before.before in
+    let tested = c.before.before in
     let rounded = tested.before.before in
     let x = rounded.args.ideal in
     let q = rounded.args.current in
     let r = rounded.round_half_away-r.result in
     let e = rounded.round_half_away-r.ensures in
-    steps q r _ _ _ _ (current-size q rounded.requires.is_current) (small x r (nearest_in x rounded.requires.is_ideal) e) listed.with_zero-first.ensures c.offered-second.ensures
+    steps q r _ _ _ _ (current-size q rounded.requires.is_current) (small x r (nearest_in x rounded.requires.is_ideal) e) c.with_zero-first.ensures c.offered-second.ensures
     c.offered-third.ensures c.offered.ensures
     ∙ chain q r
     ∙ ap (λ (z : ℤ). filled q (drop_repeats (q ∷ pos 0 ∷ z ∷ pred_ℤ z ∷ suc_ℤ z ∷ []))) e

@@ -17,13 +17,13 @@ pub float_to_bits-bits : goal.float_to_bits-bits
 float_to_bits-bits c = ideal-number c.args.x c.requires
 
 pub returns-then-exponent-lt126 : goal.returns-then-exponent-lt126
-returns-then-exponent-lt126 c = sym (bits_small c.args.x c.before.well_formed.0.1 c.requires c.if-exponent-lt126.true)
+returns-then-exponent-lt126 c = sym (bits_small c.args.x c.well_formed.0.1 c.requires c.if-exponent-lt126.true)
 
 pub overflow_add-digits : goal.overflow_add-digits
 overflow_add-digits c = omega arith
 
 pub overflow_sub-halves : goal.overflow_sub-halves
-overflow_sub-halves c = let h = bits-under c.args.x c.before.well_formed.0.1 c.requires in omega arith
+overflow_sub-halves c = let h = bits-under c.args.x c.well_formed.0.1 c.requires in omega arith
 
 pub overflow_shr-halves : goal.overflow_shr-halves
 overflow_shr-halves c = let l : 126 - 1 < exponent_of (to_bits binary32 c.args.x) = c.if-exponent-lt126.false in omega arith
@@ -56,15 +56,13 @@ overflow_sub-result c =
 
 pub returns-then-bits-lt2147483648 : goal.returns-then-bits-lt2147483648
 returns-then-bits-lt2147483648 c =
-    let entry = c.before.before in
-    let b = to_bits binary32 entry.args.x in
+    let b = to_bits binary32 c.args.x in
     as_int (rounded_size b) (rounded-small b)
-    ∙ sym (bits-large entry.args.x entry.well_formed.0.1 entry.requires c.if-exponent-lt126.false ∙ ap (λ (s : Bool). signed s (rounded_size b)) (lt-leb 2147483648 b c.if-bits-lt2147483648.true))
+    ∙ sym (bits-large c.args.x c.well_formed.0.1 c.requires c.if-exponent-lt126.false ∙ ap (λ (s : Bool). signed s (rounded_size b)) (lt-leb 2147483648 b c.if-bits-lt2147483648.true))
 
 pub returns-else-bits-lt2147483648 : goal.returns-else-bits-lt2147483648
 returns-else-bits-lt2147483648 c =
-    let entry = c.before.before in
-    let b = to_bits binary32 entry.args.x in
+    let b = to_bits binary32 c.args.x in
     ap (λ (z : ℤ). to_z w32 (of_z w32 z)) (ap (λ (z : ℤ). pos 0 -ℤ z) (as_int (rounded_size b) (rounded-small b)) ∙ minus_pos (rounded_size b))
     ∙ to_z-of_z w32 (neg_ℤ (pos (rounded_size b))) (negated (rounded_size b) (rounded-small b))
-    ∙ sym (bits-large entry.args.x entry.well_formed.0.1 entry.requires c.if-exponent-lt126.false ∙ ap (λ (s : Bool). signed s (rounded_size b)) (le-leb 2147483648 b c.if-bits-lt2147483648.false))
+    ∙ sym (bits-large c.args.x c.well_formed.0.1 c.requires c.if-exponent-lt126.false ∙ ap (λ (s : Bool). signed s (rounded_size b)) (le-leb 2147483648 b c.if-bits-lt2147483648.false))

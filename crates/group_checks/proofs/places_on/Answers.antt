@@ -1,6 +1,5 @@
 use mathlib.Core.Path.{sym, ◌∙◌, ap₂}
 use mathlib.Core.Bool.{◌&&◌}
-use native.Mathlib.Omega.{arith}
 use borrow.Author.Rules.{rules}
 use Rattle.group_list.proofs.Order.{rest-start, rest_more, rest-fails, rest_all}
 use Rattle.group_checks.proofs.Marks.{placed_at, marks-more, apart-is, neighboured-is, flag-start, flag-more, flag-all, refused-30, refused-31, refused_none}
@@ -9,31 +8,11 @@ use Rattle.group_checks.proofs.places_on.Goals as goal
 pub loop-i-init : goal.loop-i-init
 loop-i-init c = (c.requires.marks, (rest-start _ _, flag-start _ _))
 
-pub free_cells-requires : goal.free_cells-requires
-free_cells-requires c =
-    let placed = placed_at _ c.requires.tested.0 c.requires.tested.1.0 c.requires.tested.1.1 c.loop-i.i c.loop-i-test.true in
-    record { marks_len = c.loop-i.invariant.0.long; channel_bound = (placed.channel, (placed.across, placed.down)) }
-
 pub returns-then-not-free_cells : goal.returns-then-not-free_cells
 returns-then-not-free_cells c =
     let loop = c.loop-i in
     let placed = placed_at _ c.requires.tested.0 c.requires.tested.1.0 c.requires.tested.1.1 loop.i c.loop-i-test.true in
     refused-30 _ (rest-fails _ _ _ loop.invariant.1.0 c.loop-i-test.true (λ reals. apart-is c.args.words.now loop.i loop.marks loop.invariant.0 placed reals ∙ sym c.free_cells.ensures ∙ c.if-not-free_cells.true))
-
-pub near_left-left-requires : goal.near_left-left-requires
-near_left-left-requires c =
-    let placed = placed_at _ c.requires.tested.0 c.requires.tested.1.0 c.requires.tested.1.1 c.loop-i.i c.loop-i-test.true in
-    record { marks_len = c.loop-i.invariant.0.long; channel_bound = (placed.channel, (omega (arith, placed.across, placed.wide), omega (arith, placed.down, placed.tall))) }
-
-pub near_up-up-requires : goal.near_up-up-requires
-near_up-up-requires c =
-    let placed = placed_at _ c.requires.tested.0 c.requires.tested.1.0 c.requires.tested.1.1 c.loop-i.i c.loop-i-test.true in
-    record { marks_len = c.loop-i.invariant.0.long; channel_bound = (placed.channel, (omega (arith, placed.across, placed.wide), omega (arith, placed.down, placed.tall))) }
-
-pub write_cells-requires : goal.write_cells-requires
-write_cells-requires c =
-    let placed = placed_at _ c.requires.tested.0 c.requires.tested.1.0 c.requires.tested.1.1 c.loop-i.i c.loop-i-test.true in
-    record { cells_len = c.loop-i.invariant.0.long; channel_bound = (placed.channel, (placed.across, placed.down)) }
 
 pub loop-i-preserved : goal.loop-i-preserved
 loop-i-preserved c =

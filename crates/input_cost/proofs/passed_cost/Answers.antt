@@ -1,6 +1,5 @@
 use Rattle.search_checks.proofs.Checked.{searched-of}
 use Rattle.search_checks.proofs.Refusing.{checked-of}
-use Rattle.steps.proofs.Plans.{planned-lists}
 use Rattle.input_cost.proofs.Meaning.{own-cost}
 use Rattle.input_cost.proofs.passed_cost.Goals as goal
 
@@ -11,10 +10,10 @@ plan_of-plan-requires c = let a = c.requires.passed in
 pub cost_of-requires : goal.cost_of-requires
 cost_of-requires c =
     let plan = c.plan_of-plan.ensures in
-    searched-of _ (checked-of _ _ plan.window_value c.requires (planned-lists _ plan.planned _ _ _ _) plan.coded)
+    searched-of _ (checked-of _ _ plan.window_value c.requires (plan.planned _))
 
 pub returns : goal.returns
 returns c =
     let plan = c.plan_of-plan.ensures in
-    let K = checked-of _ _ plan.window_value c.requires (planned-lists _ plan.planned _ _ _ _) plan.coded in
+    let K = checked-of _ _ plan.window_value c.requires (plan.planned _) in
     own-cost _ K plan.window_value c.cost_of.ensures

@@ -38,26 +38,6 @@ unfolding pack_signed
 not_negative (pos n) h t = (omega arith, tt)
 not_negative (negsuc n) h t = absurd (true≢false (subst (λ (z : ℤ). lt_z z (pos 0) ≡ false) (back (negsuc n) h) t))
 
-pub overflow_sub-result : goal.overflow_sub-result
-overflow_sub-result c = rw (mirrored c.args.level c.requires c.if-level-lt0.true) (small c.args.level c.requires)
-
-pub overflow_cast-result : goal.overflow_cast-result
-overflow_cast-result c = rw (mirrored-back c.args.level c.requires c.if-level-lt0.true) (tt, record { fits = omega arith })
-
-pub overflow_mul-result : goal.overflow_mul-result
-overflow_mul-result c = rw (mirrored-back c.args.level c.requires c.if-level-lt0.true) (record { fits = omega arith })
-
-pub overflow_add-result : goal.overflow_add-result
-overflow_add-result c = rw (mirrored-back c.args.level c.requires c.if-level-lt0.true) (record { fits = omega arith })
-
-pub overflow_cast-result-else-level-lt0 : goal.overflow_cast-result-else-level-lt0
-overflow_cast-result-else-level-lt0 c =
-    rw (back c.args.level c.requires)
-    ((not_negative c.args.level c.requires c.if-level-lt0.false).1, record { fits = omega arith })
-
-pub overflow_mul-result-else-level-lt0 : goal.overflow_mul-result-else-level-lt0
-overflow_mul-result-else-level-lt0 c = rw (back c.args.level c.requires) (record { fits = omega arith })
-
 pub returns-then-level-lt0 : goal.returns-then-level-lt0
 returns-then-level-lt0 c =
     rw (mirrored-back c.args.level c.requires c.if-level-lt0.true)

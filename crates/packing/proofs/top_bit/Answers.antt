@@ -12,8 +12,5 @@ found v pos h =
     let e = top_unique v t.0 t.2 t.3 in
     omega (arith, t.1, e)
 
-pub overflow_sub-result : goal.overflow_sub-result
-overflow_sub-result c = (found c.args.v c.requires (omega arith)).0
-
 pub returns : goal.returns
 returns c = (found c.args.v c.requires (omega arith)).1

@@ -1,6 +1,5 @@
 use Prim.Native.Nat.{ℕ, ◌-◌, ◌*◌, ◌/◌, ◌%◌, ◌^◌}
 use native.Mathlib.Omega.{arith}
-use lib.Pow.{pow_pos}
 use mathlib.Core.Path.{◌≡◌, ap}
 use Rattle.packing.proofs.Hybrid.{valid}
 use Rattle.packing.proofs.Past.{Past, past, made, small}
@@ -36,11 +35,6 @@ power-requires c =
 
 pub returns-then-value-power : goal.returns-then-value-power
 returns-then-value-power c = small _ _ _ _ (rw (← c.power.ensures) c.if-value-power.true)
-
-pub top_bit-n-requires : goal.top_bit-n-requires
-top_bit-n-requires c =
-    let p = pow_pos c.args.config.split_exponent in
-    omega (arith, p, c.power.ensures)
 
 -- the high bits' part of the symbol
 high : (c : After-low_bits-high) → c.low_bits-high.result * 2 ^ c.args.config.lsb_in_token ≡ c.args.value / 2 ^ (c.top_bit-n.result - c.args.config.msb_in_token) % 2 ^ c.args.config.msb_in_token * 2 ^ c.args.config.lsb_in_token

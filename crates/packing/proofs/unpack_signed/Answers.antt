@@ -1,4 +1,4 @@
-use Prim.Native.Nat.{ℕ, zero, suc, ◌+◌, ◌-◌, ◌/◌, ◌%◌, ◌≤◌}
+use Prim.Native.Nat.{ℕ, zero, suc, ◌+◌, ◌/◌, ◌%◌, ◌≤◌}
 use mathlib.Core.Path.{◌≡◌, refl, ap, ◌∙◌}
 use native.Mathlib.Nat.{zero-add}
 use native.Mathlib.Omega.{arith}
@@ -32,9 +32,6 @@ unfolding unpack_signed
 odd u ne =
     let up : (u + 1) / 2 ≡ suc (u / 2) = omega arith in
     rw (ne_eqb (u % 2) 0 ne, up)
-
-pub overflow_sub-result : goal.overflow_sub-result
-overflow_sub-result c = rw (mirrored c.args.value c.requires) (small c.args.value c.requires)
 
 pub returns-then-value-eq0 : goal.returns-then-value-eq0
 returns-then-value-eq0 c = half c.args.value c.requires ∙ even c.args.value c.if-value-eq0.true

@@ -15,17 +15,17 @@ bounds-configs-at-2 c = omega (arith, parts2 _ c.requires.lengths)
 pub bounds-configs-at-3 : goal.bounds-configs-at-3
 bounds-configs-at-3 c = omega (arith, parts2 _ c.requires.lengths)
 
-pub cluster_split-split-requires-clause-cluster_in_bounds : goal.cluster_split-split-requires-clause-cluster_in_bounds
-cluster_split-split-requires-clause-cluster_in_bounds c = omega (arith, parts2 _ c.requires.lengths)
+pub cluster_split-split-requires-clause-configs_in_bounds : goal.cluster_split-split-requires-clause-configs_in_bounds
+cluster_split-split-requires-clause-configs_in_bounds c = omega (arith, parts2 _ c.requires.lengths)
 
 pub symbol_at-requires : goal.symbol_at-requires
 symbol_at-requires c = omega (arith, parts2 _ c.requires.lengths)
 
-pub cluster_price-price-requires-clause-cluster_in_bounds : goal.cluster_price-price-requires-clause-cluster_in_bounds
-cluster_price-price-requires-clause-cluster_in_bounds c = omega (arith, parts2 _ c.requires.lengths)
+pub cluster_price-price-requires-clause-configs_in_bounds : goal.cluster_price-price-requires-clause-configs_in_bounds
+cluster_price-price-requires-clause-configs_in_bounds c = omega (arith, parts2 _ c.requires.lengths)
 
-pub cluster_price-price-requires-clause-cluster_in_bounds_2 : goal.cluster_price-price-requires-clause-cluster_in_bounds_2
-cluster_price-price-requires-clause-cluster_in_bounds_2 c = omega (arith, parts2 _ c.requires.lengths)
+pub cluster_price-price-requires-clause-symbols_in_bounds : goal.cluster_price-price-requires-clause-symbols_in_bounds
+cluster_price-price-requires-clause-symbols_in_bounds c = omega (arith, parts2 _ c.requires.lengths)
 
 pub bounds-view-cluster : goal.bounds-view-cluster
 bounds-view-cluster c = omega (arith, parts2 _ c.requires.lengths)

@@ -16,8 +16,3 @@ loop-mark-preserved c =
     let below : k < c.args.n = omega (arith, c.loop-mark-test.true, length-take-le c.args.n marks c.requires) in
     let here : get_or (take c.args.n marks) k 0 ≡ get_or marks k 0 = get_or-take c.args.n marks k 0 below in
     least_more _ _ c.loop-mark.invariant (rw here at c.min-least.ensures)
-
-pub returns : goal.returns
-returns c =
-    let end : c.loop-mark.mark-index ≡ c.args.n = omega (arith, c.loop-mark-test.false, length-take-le c.args.n c.args.marks.now c.requires) in
-    least-done _ (rw end at c.loop-mark.invariant)

@@ -9,9 +9,6 @@ loop-i-init c = set_at c.args.words.now _ c.requires.words_value
 pub returns-then-words-i-eq0 : goal.returns-then-words-i-eq0
 returns-then-words-i-eq0 c = sym (not_set c.args.words.now c.loop-i.i c.args.n c.loop-i-test.true c.if-words-i-eq0.true)
 
-pub loop-i-preserved : goal.loop-i-preserved
-loop-i-preserved c = set_more c.args.words.now c.loop-i.i c.loop-i.invariant c.if-words-i-eq0.false
-
 pub returns : goal.returns
 returns c =
     let end : c.loop-i.i ≡ c.args.n = omega arith in

@@ -13,22 +13,22 @@ pub returns-in_err-check_block : goal.returns-in_err-check_block
 returns-in_err-check_block c =
     let b = block_with c.args.block.now c.args.levels.now in
     let number = c.in_err-check_block.ensures in
-    let v = window_for c.args.cap (covered b) in
+    let v = window_for c.args.limits.cap (covered b) in
     let room = c.args.room in
     let later = cond {A = ℕ} (enough_room c.args.asked.bytes c.args.asked.floats v.length room.choices room.row_a room.row_b) 0 14 in
-    let some = later-none c.args.width v b later (λ none. omega (arith, number_positive c.in_err-check_block.field-0.0, number, none)) in
+    let some = later-none c.args.limits.half_width v b later (λ none. omega (arith, number_positive c.in_err-check_block.field-0.0, number, none)) in
     grind (arith, number ∙ sym some)
 
 pub window_under-window-requires : goal.window_under-window-requires
 window_under-window-requires c =
-    let a = passed _ _ _ c.requires.1 (sym c.in_ok-check_block.ensures) in
+    let a = passed _ _ _ c.args.limits.some (sym c.in_ok-check_block.ensures) in
     sides-most _ _ a.first_side a.second_side
 
 pub enough_room-requires : goal.enough_room-requires
 unfolding covered
 enough_room-requires c =
-    let a = passed _ _ _ c.requires.1 (sym c.in_ok-check_block.ensures) in
-    (c.requires.0, rw c.window_under-window.ensures a.window.most)
+    let a = passed _ _ _ c.args.limits.some (sym c.in_ok-check_block.ensures) in
+    (c.requires, rw c.window_under-window.ensures a.window.most)
 
 pub returns-then-not-enough_room : goal.returns-then-not-enough_room
 unfolding covered

@@ -13,14 +13,16 @@ search_banded-requires c = record { width_bound = c.requires.narrow; accepted = 
 pub search_banded-requires-in-Unfactored : goal.search_banded-requires-in-Unfactored
 search_banded-requires-in-Unfactored c = record { width_bound = c.requires.narrow; accepted = (c.requires.accepted, unfactored-room c.requires c.in-Unfactored.is) }
 
-pub returns-in-Greedy : goal.returns-in-Greedy
-returns-in-Greedy c = greedy-searched _ _ _ _ _ _ c.in-Greedy.is c.search_greedy.ensures
+pub returns-in-Greedy-clause-outcome : goal.returns-in-Greedy-clause-outcome
+returns-in-Greedy-clause-outcome c = greedy-searched _ _ _ _ _ _ c.in-Greedy.is c.search_greedy.ensures
 
-pub returns-in-Beam : goal.returns-in-Beam
-returns-in-Beam c = beam-searched _ _ _ _ _ _ c.in-Beam.is c.search_beam-answer.ensures c.clear_row.ensures c.clear_row-in-Beam.ensures
+pub returns-in-Beam-clause-outcome : goal.returns-in-Beam-clause-outcome
+returns-in-Beam-clause-outcome c =
+    let rows = c.clear_rows.ensures in
+    beam-searched _ _ _ _ _ _ c.in-Beam.is c.search_beam-answer.ensures rows.choices rows.row_a rows.row_b
 
-pub returns-in-Trellis : goal.returns-in-Trellis
-returns-in-Trellis c = trellis-searched _ _ _ _ _ _ c.in-Trellis.is c.search_banded.ensures
+pub returns-in-Trellis-clause-outcome : goal.returns-in-Trellis-clause-outcome
+returns-in-Trellis-clause-outcome c = trellis-searched _ _ _ _ _ _ c.in-Trellis.is c.search_banded.ensures.outcome
 
-pub returns-in-Unfactored : goal.returns-in-Unfactored
-returns-in-Unfactored c = unfactored-searched _ _ _ _ _ _ c.in-Unfactored.is c.search_banded-in-Unfactored.ensures
+pub returns-in-Unfactored-clause-outcome : goal.returns-in-Unfactored-clause-outcome
+returns-in-Unfactored-clause-outcome c = unfactored-searched _ _ _ _ _ _ c.in-Unfactored.is c.search_banded-in-Unfactored.ensures.outcome

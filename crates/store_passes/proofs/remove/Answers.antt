@@ -1,6 +1,6 @@
 use mathlib.Core.Path.{refl}
 use native.Mathlib.Omega.{arith}
-use Rattle.store_passes.proofs.Passes.{remove-start, kept-few, remove-next, remove-end}
+use Rattle.store_passes.proofs.Passes.{remove-start, kept-few, remove-next}
 use Rattle.store_passes.proofs.remove.Goals as goal
 
 pub loop-i-init : goal.loop-i-init
@@ -14,7 +14,4 @@ keep_run-kept-requires c =
 pub loop-i-preserved : goal.loop-i-preserved
 loop-i-preserved c =
     let kept = c.keep_run-kept.ensures in
-    remove-next _ _ _ _ _ _ c.loop-i.invariant c.requires.0 c.requires.1 c.loop-i-test.true refl refl refl kept.value kept.rec_after
-
-pub returns : goal.returns
-returns c = remove-end _ _ _ _ _ _ c.loop-i.invariant c.loop-i-test.false
+    remove-next _ _ _ _ _ _ c.loop-i.invariant c.requires.0 c.requires.1 c.loop-i-test.true refl refl refl (rw c.run_at-run.ensures at kept.value) (rw c.run_at-run.ensures at kept.rec_after)

@@ -3,10 +3,10 @@ use Rattle.std.proofs.lemmas.Grind.{common_steps}
 use Rattle.store_record.specs.Marks.{fits}
 use Rattle.store_record.proofs.run_fits.Goals as goal
 
-pub returns-then-start-size : goal.returns-then-start-size
+pub returns-then-run-size : goal.returns-then-run-size
 unfolding fits
-returns-then-start-size c = grind (arith, common_steps)
+returns-then-run-size c = grind (arith, common_steps)
 
-pub returns-else-start-size : goal.returns-else-start-size
+pub returns-else-run-size : goal.returns-else-run-size
 unfolding fits
-returns-else-start-size c = grind (arith, common_steps)
+returns-else-run-size c = grind (arith, common_steps)

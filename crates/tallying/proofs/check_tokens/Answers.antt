@@ -1,4 +1,4 @@
-use Rattle.std.proofs.Common.{◌≡◌, Err, Bool, not, cond, ap, sym, ◌∙◌, arith}
+use Rattle.std.proofs.Common.{◌≡◌, Err, Bool, not, cond, ap, refl, sym, ◌∙◌, arith}
 use Rattle.coding.specs.Coding.{coding_of}
 use Rattle.laws.proofs.Tests.{failed, held}
 use Rattle.refusals.proofs.Numbers.{number_positive}
@@ -23,4 +23,4 @@ pub returns : goal.returns
 returns c =
     let t = tokens_of c.args.contexts.now c.args.values.now in
     let passed = code-passed (coding_of c.args.clusters c.args.map.now c.args.configs.now) t c.args.places c.in_ok-code.ensures.1 in
-    (c.in_ok-code.ensures.0, passed ∙ ap (λ (b : Bool). cond b 0 17) (held c.are_tokens.ensures (ap not c.if-not-are_tokens.false)))
+    ((c.in_ok-code.ensures.0, refl), passed ∙ ap (λ (b : Bool). cond b 0 17) (held c.are_tokens.ensures (ap not c.if-not-are_tokens.false)))

@@ -1,9 +1,7 @@
-use Prim.Native.Nat.{ℕ, ◌-◌}
-use mathlib.Core.Path.{◌≡◌, refl, sym, ap, ◌∙◌}
+use Prim.Native.Nat.{◌-◌}
+use mathlib.Core.Path.{◌≡◌, refl, sym}
 use mathlib.Core.List.{[]}
 use native.Mathlib.Omega.{arith}
-use lib.ListN.{length}
-use Rattle.scan.specs.Scan.{put}
 use Rattle.scan.proofs.Through.{put-none}
 use Rattle.token_read.proofs.Restoring.{put_on}
 use Rattle.token_read.proofs.clear_from.Goals as goal
@@ -17,9 +15,3 @@ pub loop-k-preserved : goal.loop-k-preserved
 loop-k-preserved c =
     let at = c.loop-k in
     (omega (arith, at.auto.k, c.loop-k-test.true), put_on _ [] _ _ _ _ _ _ at.auto.k at.invariant.1 c.write_level.ensures refl)
-
-pub returns : goal.returns
-returns c =
-    let at = c.loop-k in
-    let all : at.k - c.args.from ≡ length c.args.scan.now - c.args.from = omega (arith, at.invariant.0, at.auto.k, c.loop-k-test.false) in
-    at.invariant.1 ∙ ap (λ (n : ℕ). put c.args.scan.now [] c.args.from n c.args.levels.now) all

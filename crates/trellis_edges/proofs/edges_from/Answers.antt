@@ -1,5 +1,5 @@
-use Rattle.std.proofs.Common.{◌≡◌, refl, sym, ◌∙◌, arith}
-use Rattle.steps.proofs.Listed.{listed-length}
+use Rattle.std.proofs.Common.{◌≡◌, refl, sym, ◌∙◌, length, arith}
+use Rattle.trellis_row.proofs.Rooms.{fits-kept}
 use Rattle.trellis_edges.proofs.Tried.{elsewhere-all, elsewhere-again, tried-next}
 use Rattle.trellis_edges.proofs.edges_from.Goals as goal
 
@@ -15,6 +15,8 @@ loop-j-preserved c =
 pub returns-clause-tried_after : goal.returns-clause-tried_after
 returns-clause-tried_after c =
     let inv = c.loop-j.invariant in
-    let work = c.requires.workable in
-    let last : c.loop-j.j ≡ c.args.count = omega (arith, inv.upto) in
-    tried-next work (listed-length work.usable ∙ sym last) inv.tried
+    let last : c.loop-j.j ≡ length c.args.row.now.candidates.levels.now = omega (arith, inv.upto) in
+    tried-next c.args.row.now.workable (sym last) inv.tried
+
+pub try_edge-requires-clause-fits : goal.try_edge-requires-clause-fits
+try_edge-requires-clause-fits c = fits-kept c.requires.fits c.loop-j.invariant.size c.loop-j.invariant.elsewhere.size

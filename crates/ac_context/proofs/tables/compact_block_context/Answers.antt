@@ -5,4 +5,4 @@ use Rattle.ac_context.proofs.tables.compact_block_context.Goals as goal
 
 pub returns : goal.returns
 unfolding block_context_map
-returns c = (search rules, rw c.wide.ensures (map_below _ c.requires))
+returns c = (search rules, rw c.from.ensures (map_below _ c.requires))

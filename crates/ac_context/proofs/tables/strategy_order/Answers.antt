@@ -5,4 +5,4 @@ use Rattle.ac_context.proofs.tables.strategy_order.Goals as goal
 
 pub returns : goal.returns
 unfolding strategy_order
-returns c = (search rules, rw c.wide.ensures (order_below _ c.requires))
+returns c = (search rules, rw c.from.ensures (order_below _ c.requires))

@@ -32,7 +32,7 @@ bounds-kept-j-2 c =
 
 pub count_cost-requires : goal.count_cost-requires
 count_cost-requires c = let pre = c.requires in
-    record { coded = pre.countable.coded; count_bound = omega (arith, pre.countable.counts _ pre.j_lt_count, pre.j_lt_count, pre.countable.few) }
+    omega (arith, pre.countable.counts _ pre.j_lt_count, pre.j_lt_count, pre.countable.few)
 
 pub returns : goal.returns
 returns c = λ b xs w F. total_here _ _ b xs _ _ _ _ w F c.requires.j_lt_count c.first_prev-prev.ensures (c.count_cost.ensures b w)

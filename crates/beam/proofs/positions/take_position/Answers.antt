@@ -1,5 +1,6 @@
 use mathlib.Core.Path.{refl}
 use native.Mathlib.Omega.{arith}
+use Rattle.steps.proofs.Listed.{listed-length, pickable-of}
 use Rattle.steps.proofs.Zero.{handed-current, current-back}
 use Rattle.beam.proofs.Taking.{readable-now, spotted-now, takeable, stepped-here}
 use Rattle.search_checks.proofs.Checked.{base_short, position-few, window-few}
@@ -26,7 +27,13 @@ take_step-step-requires c =
     let h = (pre.i_lt_length w).0 in
     let offer = c.offer-offer in
     let back = current-back offer.result.level (rw offer.ensures.usable.1 (readable-now w _ h).level) in
-    takeable w.checked _ h (spotted-now w offer.ensures.offered back c.place-place.ensures) (pre.i_lt_length w).1 offer.ensures.usable.0
+    takeable w.checked _ h (spotted-now w offer.ensures.offered back c.place-place.ensures) (pre.i_lt_length w).1 (pickable-of offer.ensures.usable.0)
+
+pub slice_bounds-candidates-end : goal.slice_bounds-candidates-end
+slice_bounds-candidates-end c = omega (arith, listed-length c.offer-offer.ensures.usable.0)
+
+pub invariant_of-candidates : goal.invariant_of-candidates
+invariant_of-candidates c = record { pickable = pickable-of c.offer-offer.ensures.usable.0 }
 
 pub overflow_mul-i : goal.overflow_mul-i
 overflow_mul-i c =

@@ -9,7 +9,7 @@ use Rattle.beam.proofs.search.search.Goals as goal
 
 pub start_of-start-requires : goal.start_of-start-requires
 start_of-start-requires c = let w = c.requires.searched in
-    record { coded = w.checked.coded; whole = whole-past w; length_in_bounds = window-fits w; perm = (scan-of w, levels-few w) }
+    record { whole = whole-past w; length_in_bounds = window-fits w; perm = (scan-of w, levels-few w) }
 
 pub take_positions-later-requires : goal.take_positions-later-requires
 take_positions-later-requires c = let pre = c.requires in

@@ -16,7 +16,6 @@ pub try_path-entry-requires : goal.try_path-entry-requires
 try_path-entry-requires c =
     let context = c.context-context.ensures in
     record {
-      priced = c.requires.priced;
       context_value = (context.0 ∙ ap (context_at _) (sym c.loop-j.invariant.0), context.1);
       remaining_bound = (count-few c.requires.takeable c.loop-j-test.true, omega (arith, c.loop-j-test.true, c.requires.takeable.few));
     }
@@ -31,5 +30,5 @@ loop-j-preserved c =
 pub returns : goal.returns
 returns c =
     let inv = c.loop-j.invariant in
-    let last : c.loop-j.j ≡ c.args.paths = omega arith in
+    let last : c.loop-j.j ≡ c.args.paths.now.count = omega arith in
     λ q xs S W. paths-all W last inv.0 (inv.1 q xs S W)

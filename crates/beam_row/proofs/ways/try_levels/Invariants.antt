@@ -12,5 +12,5 @@ use Rattle.beam_row.proofs.ways.try_levels.Given as given
 abbrev pub invariant-loop-i : given.invariant-loop-i
 invariant-loop-i l =
     (l.best.remaining ≡ l.initial.best.remaining)
-    × ((q : Position) (xs : List Path) (ws : List Way) → Stands (contents l.book) (spot_of l.place l.count l.levels) q → Leads xs l.j l.nonzero l.tail l.initial.best.remaining → BothOf q xs ws l.initial.best
+    × ((q : Position) (xs : List Path) (ws : List Way) → Stands (contents l.weighed.book.now) (spot_of l.weighed.place l.weighed.candidates.levels.now) q → Leads xs l.j l.nonzero l.tail l.initial.best.remaining → BothOf q xs ws l.initial.best
     → BothOf q xs (ws ++ ways_of (get_or xs l.j no_path) (take l.i q.candidates)) l.best)

@@ -8,38 +8,28 @@ use Rattle.bias.specs.Level.{biased, corrected}
 use Rattle.bias.proofs.Cases.{level-sfits, level-exact, from_bits, far}
 use Rattle.bias.proofs.DequantBias.level.Goals as goal
 
-pub int_to_float-q : goal.int_to_float-q
-int_to_float-q c =
-    let entry = c.before.before.before.before in
-    let q = entry.args.quant in
-    subst (λ (z : ℤ). T (in_float binary32 z)) (sym (to_z-of_z w32 q (level-sfits q entry.requires))) (level-exact q entry.requires)
-
 pub returns-then-quant-eq0 : goal.returns-then-quant-eq0
 unfolding biased of_bits
 returns-then-quant-eq0 c =
-    let entry = c.before in
-    let b = entry.args.self in
-    sym (ap (λ (z : ℤ). biased b z) (from_bits entry.args.quant (pos 0) entry.requires tt c.if-quant-eq0.true))
+    let b = c.args.self in
+    sym (ap (λ (z : ℤ). biased b z) (from_bits c.args.quant (pos 0) c.requires tt c.if-quant-eq0.true))
 
 pub returns-then-quant-eq1 : goal.returns-then-quant-eq1
 unfolding biased
 returns-then-quant-eq1 c =
-    let entry = c.before.before in
-    let b = entry.args.self in
-    sym (ap (λ (z : ℤ). biased b z) (from_bits entry.args.quant (pos 1) entry.requires tt c.if-quant-eq1.true))
+    let b = c.args.self in
+    sym (ap (λ (z : ℤ). biased b z) (from_bits c.args.quant (pos 1) c.requires tt c.if-quant-eq1.true))
 
 pub returns-then-quant-eqminus1 : goal.returns-then-quant-eqminus1
 unfolding biased
 returns-then-quant-eqminus1 c =
-    let entry = c.before.before.before.before in
-    let b = entry.args.self in
-    sym (ap (λ (z : ℤ). biased b z) (from_bits entry.args.quant (negsuc 0) entry.requires tt c.if-quant-eqminus1.true))
+    let b = c.args.self in
+    sym (ap (λ (z : ℤ). biased b z) (from_bits c.args.quant (negsuc 0) c.requires tt c.if-quant-eqminus1.true))
 
 pub returns-else-quant-eqminus1 : goal.returns-else-quant-eqminus1
 unfolding biased corrected
 returns-else-quant-eqminus1 c =
-    let entry = c.before.before.before.before.before in
-    let b = entry.args.self in
-    let q = entry.args.quant in
-    ap (λ (z : ℤ). sub binary32 (of_int binary32 z) (div binary32 b.numerator (of_int binary32 z))) (to_z-of_z w32 q (level-sfits q entry.requires))
+    let b = c.args.self in
+    let q = c.args.quant in
+    ap (λ (z : ℤ). sub binary32 (of_int binary32 z) (div binary32 b.numerator (of_int binary32 z))) (to_z-of_z w32 q (level-sfits q c.requires))
     ∙ sym (far b.one b.numerator q c.if-quant-eq0.false c.if-quant-eq1.false c.if-quant-eqminus1.false)

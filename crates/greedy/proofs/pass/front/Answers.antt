@@ -26,9 +26,8 @@ level_at-requires c = let w = c.requires in
     record { k_in_bounds = omega (arith, w.long, w.some); k_in_bounds_2 = w.within _ (omega (arith, w.long, w.some)) }
 
 pub returns : goal.returns
-returns c = let else = c.before.before.before in
-    let start = else.before.before in
-    let w = start.requires in
-    let some : 0 < start.args.i = omega (arith, else.if-i-eq0.false) in
+returns c =
+    let w = c.requires in
+    let some : 0 < c.args.i = omega (arith, c.if-i-eq0.false) in
     let back = handed-back _ _ c.level_at.ensures (w.level _ (omega arith) (omega (arith, w.some))) in
     record { value = λ b es el ec. front-past b es el ec _ some (c.nonzero.ensures ∙ ap nz back); upper_bound = rw c.nonzero.ensures (nz-le _) }

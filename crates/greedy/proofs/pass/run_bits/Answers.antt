@@ -12,8 +12,8 @@ run_start-start-requires c =
     c.requires.windowed
 
 pub zeros-requires : goal.zeros-requires
-zeros-requires c = let start = c.before.before.before.before in
-    record { coded = start.requires.coded; start_le_end = (c.run_start-start.ensures.1, start.requires.i_bound) }
+zeros-requires c =
+    (c.run_start-start.ensures.1, c.requires.i_bound)
 
 pub returns : goal.returns
 returns c =

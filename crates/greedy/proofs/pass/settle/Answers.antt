@@ -16,7 +16,7 @@ step-counts-requires c =
     let pre = c.requires in
     let inv = c.loop-i.invariant in
     let some = c.loop-i-test.true in
-    record { coded = pre.coded; fitting = pre.fitting; ready = next-ready _ some inv; i_lt_length = next-below _ some inv; later_value = (next-later _ some inv, inv.total) }
+    record { fitting = pre.fitting; ready = next-ready _ some inv; i_lt_length = next-below _ some inv; later_value = (next-later _ some inv, inv.total) }
 
 pub loop-i-preserved : goal.loop-i-preserved
 loop-i-preserved c =

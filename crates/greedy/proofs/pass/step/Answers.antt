@@ -8,8 +8,7 @@ use Rattle.greedy.proofs.pass.step.Goals as goal
 
 pub overflow_add-plan : goal.overflow_add-plan
 overflow_add-plan c =
-    let start = c.before.before.before.before in
-    let pre = start.requires in
+    let pre = c.requires in
     let fitting = pre.fitting in
     let ok = pre.ready in
     let here = pre.i_lt_length in
@@ -17,8 +16,8 @@ overflow_add-plan c =
     record { fits = omega (arith, fitting.window, fitting.most) }
 
 pub write-before-requires : goal.write-before-requires
-write-before-requires c = let start = c.before.before.before.before in
-    let pre = start.requires in
+write-before-requires c =
+    let pre = c.requires in
     let fitting = pre.fitting in
     let ok = pre.ready in
     let here = pre.i_lt_length in
@@ -28,36 +27,33 @@ write-before-requires c = let start = c.before.before.before.before in
 
 pub overflow_add-result : goal.overflow_add-result
 overflow_add-result c =
-    let start = c.before.before.before.before.before.before.before.before in
-    let pre = start.requires in
+    let pre = c.requires in
     let fitting = pre.fitting in
     let ok = pre.ready in
     let here = pre.i_lt_length in
     let counts = pre.later_value in
-    let inside : start.args.plan.covered + start.args.i < 64 * start.args.plan.covered = omega (arith, fitting.window) in
+    let inside : c.args.plan.covered + c.args.i < 64 * c.args.plan.covered = omega (arith, fitting.window) in
     let one : c.nonzero-nonzero.result ≤ 1 = rw c.nonzero-nonzero.ensures (nz-le _) in
     record { fits = omega (arith, later-few _ _ _ _ inside counts.0, fitting.most) }
 
 pub overflow_sub-result : goal.overflow_sub-result
 overflow_sub-result c =
-    let start = c.before.before.before.before.before.before.before.before.before in
-    let pre = start.requires in
+    let pre = c.requires in
     let fitting = pre.fitting in
     let ok = pre.ready in
     let here = pre.i_lt_length in
     let counts = pre.later_value in
-    let inside : start.args.plan.covered + start.args.i < 64 * start.args.plan.covered = omega (arith, fitting.window) in
+    let inside : c.args.plan.covered + c.args.i < 64 * c.args.plan.covered = omega (arith, fitting.window) in
     (others-few _ _ _ _ inside counts.1 c.write-before.ensures.value).0
 
 pub overflow_add-result-2 : goal.overflow_add-result-2
 overflow_add-result-2 c =
-    let start = c.before.before.before.before.before.before.before.before.before in
-    let pre = start.requires in
+    let pre = c.requires in
     let fitting = pre.fitting in
     let ok = pre.ready in
     let here = pre.i_lt_length in
     let counts = pre.later_value in
-    let inside : start.args.plan.covered + start.args.i < 64 * start.args.plan.covered = omega (arith, fitting.window) in
+    let inside : c.args.plan.covered + c.args.i < 64 * c.args.plan.covered = omega (arith, fitting.window) in
     let one : c.nonzero-nonzero.result ≤ 1 = rw c.nonzero-nonzero.ensures (nz-le _) in
     record { fits = omega (arith, (others-few _ _ _ _ inside counts.1 c.write-before.ensures.value).1, fitting.most) }
 
@@ -66,13 +62,13 @@ shape_of-levels c =
     rw c.write-before.ensures.levels_after (simp length-set)
 
 pub returns : goal.returns
-returns c = let start = c.before.before.before.before.before.before.before.before.before in
-    let pre = start.requires in
+returns c =
+    let pre = c.requires in
     let fitting = pre.fitting in
     let ok = pre.ready in
     let here = pre.i_lt_length in
     let counts = pre.later_value in
-    let inside : start.args.plan.covered + start.args.i < 64 * start.args.plan.covered = omega (arith, fitting.window) in
+    let inside : c.args.plan.covered + c.args.i < 64 * c.args.plan.covered = omega (arith, fitting.window) in
     let wrote = c.write-before.ensures in
     let took = c.choice-level.ensures in
     let nonzero = c.nonzero-nonzero.ensures in

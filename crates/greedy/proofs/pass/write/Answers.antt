@@ -8,5 +8,5 @@ use Rattle.greedy.proofs.pass.write.Goals as goal
 
 pub returns : goal.returns
 unfolding level_at
-returns c = let start = c.before.before.before.before.before in
-    record { value = c.nonzero-before.ensures ∙ ap nz (current-back _ start.requires.t); levels_after = rw (to_z-of_z w32 _ start.ranges.level) }
+returns c =
+    record { value = c.nonzero-before.ensures ∙ ap nz (current-back _ c.requires.t); levels_after = rw (to_z-of_z w32 _ c.ranges.level) }

@@ -14,21 +14,18 @@ returns-then-remaining-eq0 c =
 
 pub overflow_add-plan : goal.overflow_add-plan
 overflow_add-plan c =
-    let start = c.before.before in
-    record { fits = omega (arith, start.requires.i_bound.0, covered-most start.requires.coded.covers) }
+    record { fits = omega (arith, c.requires.i_bound.0, covered-most c.args.plan.coded.covers) }
 
 pub token_bits-token-requires : goal.token_bits-token-requires
-token_bits-token-requires c = let start = c.before.before in
-    record { coded = start.requires.coded; coefficient = record { some = omega (arith, c.if-remaining-eq0.false); left = start.requires.i_bound.0; coded = omega arith; flag = omega (arith, start.requires.i_bound.1) }; t = rw (level-back _ start.requires.t) start.requires.t }
+token_bits-token-requires c =
+    record { coefficient = record { some = omega (arith, c.if-remaining-eq0.false); left = c.requires.i_bound.0; coded = omega arith; flag = omega (arith, c.requires.i_bound.1) }; t = rw (level-back _ c.requires.t) c.requires.t }
 
 pub returns-then-level-eq0 : goal.returns-then-level-eq0
 returns-then-level-eq0 c =
     λ b w.
-    let start = c.before.before.before.before in
-    bits-zero _ b _ _ _ _ _ _ _ _ w (level-back _ start.requires.t) c.if-remaining-eq0.false (c.token_bits-token.ensures b w) (zero-nz _ start.ranges.level c.if-level-eq0.true)
+    bits-zero _ b _ _ _ _ _ _ _ _ w (level-back _ c.requires.t) c.if-remaining-eq0.false (c.token_bits-token.ensures b w) (zero-nz _ c.ranges.level c.if-level-eq0.true)
 
 pub returns : goal.returns
 returns c =
     λ b w.
-    let start = c.before.before.before.before in
-    bits-nonzero _ b _ _ _ _ _ _ _ _ w (level-back _ start.requires.t) c.if-remaining-eq0.false (c.token_bits-token.ensures b w) (other-nz _ c.if-level-eq0.false)
+    bits-nonzero _ b _ _ _ _ _ _ _ _ w (level-back _ c.requires.t) c.if-remaining-eq0.false (c.token_bits-token.ensures b w) (other-nz _ c.if-level-eq0.false)

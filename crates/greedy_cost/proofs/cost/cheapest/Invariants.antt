@@ -1,11 +1,10 @@
 use Rattle.greedy_cost.specs.Cost.{cost_of}
 use Rattle.bias.specs.Level.{is_level}
 use Rattle.block.specs.Block.{Block}
-use Rattle.candidates.specs.Candidates.{in_array}
 use Rattle.least_cost.specs.Search.{holder}
 use Rattle.prices.specs.Contents.{contents}
 use Rattle.steps.specs.Place.{place_of}
-use Rattle.steps.specs.Plan.{Planned, listed}
+use Rattle.steps.specs.Plan.{Planned}
 use lib.Dec.{T}
 use lib.Ieee.{inf}
 use lib.ListN.{drop}
@@ -17,5 +16,5 @@ abbrev pub invariant-loop-level : given.invariant-loop-level
 invariant-loop-level l =
     T (is_level l.best.choice)
     × ((b : Block) → Planned b l.plan → l.place ≡ place_of b l.plan.log2 l.i
-    → holder (cost_of (contents l.book) b l.i l.around.later l.around.others l.around.front l.around.run) l.best.cost l.best.choice (drop l.level-index (listed (in_array l.count l.levels)))
-    ≡ holder (cost_of (contents l.book) b l.i l.around.later l.around.others l.around.front l.around.run) (inf false) l.current (listed (in_array l.count l.levels)))
+    → holder (cost_of (contents l.book) b l.i l.around.later l.around.others l.around.front l.around.run) l.best.cost l.best.choice (drop l.level-index l.candidates.levels.now)
+    ≡ holder (cost_of (contents l.book) b l.i l.around.later l.around.others l.around.front l.around.run) (inf false) l.current l.candidates.levels.now)

@@ -10,13 +10,12 @@ unfolding of_bits
 loop-j-init c = (lit≤ tt, λ b w. refl)
 
 pub overflow_add-plan : goal.overflow_add-plan
-overflow_add-plan c = record { fits = omega (arith, c.requires.start_le_end.1, covered-most c.requires.coded.covers) }
+overflow_add-plan c = record { fits = omega (arith, c.requires.1, covered-most c.args.plan.coded.covers) }
 
 pub token_bits-sum-requires : goal.token_bits-sum-requires
 token_bits-sum-requires c =
     record {
-      coded = c.requires.coded;
-      coefficient = record { some = lit≤ tt; left = omega (arith, c.requires.start_le_end.1, c.loop-j-test.true); coded = omega arith; flag = omega (arith, c.loop-j.invariant.0) };
+      coefficient = record { some = lit≤ tt; left = omega (arith, c.requires.1, c.loop-j-test.true); coded = omega arith; flag = omega (arith, c.loop-j.invariant.0) };
       t = tt;
     }
 
@@ -27,5 +26,5 @@ loop-j-preserved c =
 pub returns : goal.returns
 returns c =
     λ b w.
-    let last : c.loop-j.j ≡ c.args.end = omega (arith, c.requires.start_le_end.0) in
+    let last : c.loop-j.j ≡ c.args.end = omega (arith, c.requires.0) in
     sym (zeros-last _ b _ _ _ _ last) ∙ c.loop-j.invariant.1 b w

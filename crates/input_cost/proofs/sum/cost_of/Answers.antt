@@ -6,7 +6,7 @@ use Rattle.input_cost.proofs.sum.cost_of.Goals as goal
 pub sum_past-sum-requires : goal.sum_past-sum-requires
 sum_past-sum-requires c =
     let w = c.requires in
-    record { coded = (w.checked.coded, within-now w) }
+    within-now w
 
 pub loop-i-init : goal.loop-i-init
 loop-i-init c = λ w. c.sum_past-sum.ensures w.block w.lists.scan_is w.lists.levels_is w.checked.planned
@@ -22,7 +22,7 @@ loop-i-preserved c = c.add_position-sum.ensures
 pub count_cost-counted-requires : goal.count_cost-counted-requires
 count_cost-counted-requires c =
     let w = c.requires in
-    record { coded = w.checked.coded; count_bound = remaining-small w _ (c.loop-i.invariant w).remaining_is }
+    remaining-small w _ (c.loop-i.invariant w).remaining_is
 
 pub overflow_cast-result : goal.overflow_cast-result
 overflow_cast-result c = record { fits = omega (arith, remaining-small c.requires _ (c.loop-i.invariant c.requires).remaining_is) }

@@ -14,16 +14,15 @@ first_prev-requires c = c.requires.covered_bound.0
 
 pub returns-then-i-eq0 : goal.returns-then-i-eq0
 unfolding first_prev
-returns-then-i-eq0 c = let start = c.before.before.before.before in
-    record { value = λ b es el ec. rw (← ec) c.first_prev.ensures ∙ prev-first b _ _ c.if-i-eq0.true; upper_bound = first-few start.args.remaining start.args.covered c.first_prev.ensures }
+returns-then-i-eq0 c =
+    record { value = λ b es el ec. rw (← ec) c.first_prev.ensures ∙ prev-first b _ _ c.if-i-eq0.true; upper_bound = first-few c.args.remaining c.args.covered c.first_prev.ensures }
 
 pub level_at-requires : goal.level_at-requires
 level_at-requires c = let pre = c.requires in
     record { k_in_bounds = omega (arith, pre.covered_bound.1, c.if-i-eq0.false); k_in_bounds_2 = pre.whole.within _ (omega (arith, pre.covered_bound.1, c.if-i-eq0.false)) }
 
 pub returns : goal.returns
-returns c = let else = c.before.before.before in
-    let start = else.before.before in
-    let some : 0 < start.args.i = omega (arith, else.if-i-eq0.false) in
-    let back = handed-back _ _ c.level_at.ensures (start.requires.whole.level _ (omega arith) (omega (arith, start.requires.covered_bound.1))) in
-    record { value = λ b es el ec. c.nonzero.ensures ∙ ap nz (input-is b _ _ es el (ap (λ (n : ℕ). n + start.args.i - 1) ec) back) ∙ prev-past b _ _ some; upper_bound = rw c.nonzero.ensures (nz-le _) }
+returns c =
+    let some : 0 < c.args.i = omega (arith, c.if-i-eq0.false) in
+    let back = handed-back _ _ c.level_at.ensures (c.requires.whole.level _ (omega arith) (omega (arith, c.requires.covered_bound.1))) in
+    record { value = λ b es el ec. c.nonzero.ensures ∙ ap nz (input-is b _ _ es el (ap (λ (n : ℕ). n + c.args.i - 1) ec) back) ∙ prev-past b _ _ some; upper_bound = rw c.nonzero.ensures (nz-le _) }

@@ -4,7 +4,7 @@ use Rattle.search_checks.proofs.start.start_of.Goals as goal
 
 pub tail_costs-tails-requires : goal.tail_costs-tails-requires
 tail_costs-tails-requires c = let pre = c.requires in
-    record { coded = pre.coded; whole = pre.whole; covered_le_from = (omega arith, pre.length_in_bounds); count_value = c.nonzeros_from-past.ensures }
+    record { whole = pre.whole; covered_le_from = (omega arith, pre.length_in_bounds); count_value = c.nonzeros_from-past.ensures }
 
 pub returns : goal.returns
 returns c =

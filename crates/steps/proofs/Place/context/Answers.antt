@@ -13,16 +13,14 @@ returns-then-remaining-eq0 c = (rw (eq-eqb _ _ c.if-remaining-eq0.true), lit< tt
 
 pub zero_density_context-requires : goal.zero_density_context-requires
 zero_density_context-requires c =
-    let start = c.before in
-    let some : 0 < start.args.remaining = omega (arith, c.if-remaining-eq0.false) in
-    (start.requires.covered, start.requires.coefficient some)
+    let some : 0 < c.args.remaining = omega (arith, c.if-remaining-eq0.false) in
+    (c.requires.covered, c.requires.coefficient some)
 
 pub returns : goal.returns
 unfolding context_at
 returns c =
-    let start = c.before.before.before in
-    let call = c.before in
-    let some : 0 < start.args.remaining = omega (arith, call.if-remaining-eq0.false) in
+    let call = c in
+    let some : 0 < c.args.remaining = omega (arith, call.if-remaining-eq0.false) in
     let value = call.zero_density_context.ensures.0 in
-    let small = pair-below (covered-some start.requires.covered) (start.requires.coefficient some) in
-    (rw (ne_eqb _ _ call.if-remaining-eq0.false) (ap (λ (x : ℕ). start.args.self.offset + x) value), omega (arith, start.requires.offset_bound))
+    let small = pair-below (covered-some c.requires.covered) (c.requires.coefficient some) in
+    (rw (ne_eqb _ _ call.if-remaining-eq0.false) (ap (λ (x : ℕ). c.args.self.offset + x) value), omega (arith, c.requires.offset_bound))

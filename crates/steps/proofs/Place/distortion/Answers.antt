@@ -8,7 +8,6 @@ use Rattle.steps.proofs.Place.distortion.Goals as goal
 pub returns : goal.returns
 unfolding distortion_at distortion_of
 returns c =
-    let start = c.before.before.before.before in
-    let x = start.args.self in
+    let x = c.args.self in
     ap (λ (y : Float). mul binary32 x.weight (mul binary32 (sub binary32 x.ideal y) (sub binary32 x.ideal y)))
-    (rw (level-back _ start.requires) at c.level.ensures)
+    (rw (level-back _ c.requires) at c.level.ensures)

@@ -17,6 +17,5 @@ returns-then-context-eq0 c =
 pub returns : goal.returns
 unfolding local_in
 returns c =
-    let start = c.before.before.before.before in
-    let rated = rw (level-back _ start.requires.t) at c.rated_pair-rated.ensures in
-    rw (ne_eqb _ _ c.if-context-eq0.false) (summed start.requires.distortion_value rated.0, summed start.requires.distortion_value rated.1)
+    let rated = rw (level-back _ c.requires.t) at c.rated_pair-rated.ensures in
+    rw (ne_eqb _ _ c.if-context-eq0.false) (summed c.requires.distortion_value rated.0, summed c.requires.distortion_value rated.1)

@@ -18,30 +18,33 @@ position_weight-far_weight-requires c = rw c.base_len-base.ensures (base-few _)
 pub window_under-requires : goal.window_under-requires
 window_under-requires c = let pre = c.requires.cx_value in sides-most _ _ pre.0 pre.1
 
+pub invariant_of-result : goal.invariant_of-result
+invariant_of-result c =
+    record {
+      coded = record { covers = covered-log _ _ (sides-cover _ _ c.requires.cx_value.0 c.requires.cx_value.1) c.log2_covered.ensures; offset = omega (arith, c.fine_zero_density_contexts_offset.ensures.1); count = omega (arith, c.fine_non_zero_context.ensures.1) };
+    }
+
 pub returns : goal.returns
 unfolding covered context_of
-returns c = let start = c.before.before.before.before.before.before.before.before.before.before.before.before.before.before in
-    let lengths = c.before.before.before.before in
-    let scaled = lengths.before.before in
-    let covers = covered-log _ _ (sides-cover _ _ start.requires.cx_value.0 start.requires.cx_value.1) lengths.log2_covered.ensures in
-    let block = scaled.fine_block_context-block.ensures.0 in
+returns c =
+    let covers = covered-log _ _ (sides-cover _ _ c.requires.cx_value.0 c.requires.cx_value.1) c.log2_covered.ensures in
+    let block = rw (c.from.ensures, c.from-2.ensures) at c.fine_block_context-context.ensures.0 in
     let offset = c.fine_zero_density_contexts_offset.ensures in
-    let count = c.fine_non_zero_context.ensures in
+    let count = rw c.from-3.ensures at c.fine_non_zero_context.ensures in
     record {
-      planned = record {
+      planned = λ levels. record {
         covered_is = refl;
         covers = covers;
-        base_is = scaled.base_len-base.ensures;
+        base_is = c.base_len-base.ensures;
         offset_is = offset.0 ∙ ap fine_zero_density_contexts_offset block;
-        count_is = count.0 ∙ ap (fine_non_zero_context start.args.shape.predicted) block;
-        scale_is = scaled.channel_scale-channel_scale.ensures;
+        count_is = count.0 ∙ ap (fine_non_zero_context c.args.block.now.shape.predicted) block;
+        scale_is = c.channel_scale-channel_scale.ensures;
         distance_is = refl;
-        far_is = scaled.position_weight-far_weight.ensures;
+        far_is = c.position_weight-far_weight.ensures;
         bias_is = refl;
         lambda_is = refl;
         restore_is = c.restore_rate.ensures;
         source_is = refl;
       };
-      coded = record { covers = covers; offset = omega (arith, offset.1); count = omega (arith, count.1) };
-      window_value = lengths.window_under.ensures;
+      window_value = c.window_under.ensures;
     }

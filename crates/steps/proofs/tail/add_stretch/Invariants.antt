@@ -1,9 +1,9 @@
-use Rattle.std.proofs.Common.{◌≡◌, ◌≤◌, ℕ, List, length}
+use Rattle.std.proofs.Common.{◌≡◌, ◌≤◌, length}
 use Rattle.block.specs.Block.{Block}
 use Rattle.prices.specs.Contents.{contents}
 use Rattle.steps.specs.Plan.{Planned}
 use Rattle.steps.specs.Tail.{Shared, Standing, Continued}
-use Rattle.steps.specs.declared.reading.Plan.{Plan}
+use Rattle.steps.specs.declared.plan.Plan.{Plan}
 use Rattle.steps.proofs.tail.add_stretch.Given as given
 
 abbrev pub invariant-loop-k : given.invariant-loop-k

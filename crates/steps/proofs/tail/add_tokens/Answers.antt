@@ -11,10 +11,7 @@ loop-tail-init c = (c.requires.standing, (le_refl _, λ b es el w. record { firs
 pub stretch_at-stretch-requires : goal.stretch_at-stretch-requires
 stretch_at-stretch-requires c =
     let inv = c.loop-tail.invariant in
-    record {
-      coded = c.requires.coded;
-      coefficient = standing-coefficient inv.0 c.requires.scan_len (omega (arith, c.requires.covered_le_k, inv.1.0)) c.loop-tail-test.true;
-    }
+    standing-coefficient inv.0 c.requires.scan_len (omega (arith, c.requires.covered_le_k, inv.1.0)) c.loop-tail-test.true
 
 pub add_stretch-tail-requires : goal.add_stretch-tail-requires
 add_stretch-tail-requires c =
@@ -22,7 +19,7 @@ add_stretch-tail-requires c =
     let shared = c.stretch_at-stretch.ensures in
     let coded = standing-coefficient inv.0 c.requires.scan_len (omega (arith, c.requires.covered_le_k, inv.1.0)) c.loop-tail-test.true in
     record {
-      clusters = both-clusters c.args.book.now c.requires.coded coded shared;
+      clusters = both-clusters c.args.book.now c.args.plan coded shared;
       standing = inv.0;
       bounded = (omega (arith, shared.ends, c.requires.scan_len), shared.some);
     }

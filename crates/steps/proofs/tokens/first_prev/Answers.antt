@@ -1,8 +1,13 @@
-use borrow.Author.Tests.{le-leb, lt-leb}
+use mathlib.Core.Path.{◌≡◌, refl, ◌∙◌}
+use mathlib.Core.Bool.{Bool, true, false, cond}
+use lib.Dec.{leb}
+use Prim.Native.Nat.{◌*◌, ◌/◌}
+use mir.Val.{bool_byte}
 use Rattle.steps.proofs.tokens.first_prev.Goals as goal
 
-pub returns-then-count-covered : goal.returns-then-count-covered
-returns-then-count-covered c = rw (le-leb _ _ c.if-count-covered.true)
+byte : (t : Bool) → bool_byte t ≡ cond t 1 0
+byte true = refl
+byte false = refl
 
-pub returns-else-count-covered : goal.returns-else-count-covered
-returns-else-count-covered c = rw (lt-leb _ _ c.if-count-covered.false)
+pub returns : goal.returns
+returns c = c.from.ensures ∙ byte (leb c.args.count (64 * c.args.covered / 16))

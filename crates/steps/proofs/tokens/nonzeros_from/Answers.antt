@@ -4,12 +4,10 @@ use Rattle.steps.proofs.tokens.nonzeros_from.Goals as goal
 
 pub overflow_sub-result : goal.overflow_sub-result
 overflow_sub-result c =
-    let start = c.before.before.before.before in
-    let rest = among-rest start.args.scan.now start.args.levels.now start.requires.perm.0 start.args.from start.requires.from_in_bounds in
+    let rest = among-rest c.args.scan.now c.args.levels.now c.requires.perm.0 c.args.from c.requires.from_in_bounds in
     omega (arith, rest, c.nonzeros_in.ensures, c.nonzeros_between-2.ensures)
 
 pub returns : goal.returns
 returns c =
-    let start = c.before.before.before.before in
-    let rest = among-rest start.args.scan.now start.args.levels.now start.requires.perm.0 start.args.from start.requires.from_in_bounds in
+    let rest = among-rest c.args.scan.now c.args.levels.now c.requires.perm.0 c.args.from c.requires.from_in_bounds in
     omega (arith, rest, c.nonzeros_in.ensures, c.nonzeros_between-2.ensures)

@@ -29,9 +29,9 @@ some_left scan levels from count e some =
     (most, omega (arith, some, most))
 
 pub level_at-level-requires : goal.level_at-level-requires
-level_at-level-requires c = let start = c.before.before.before in
-    let here = (some_left _ _ _ _ start.requires.count_value c.if-count-eq0.false).1 in
-    record { k_in_bounds = here; k_in_bounds_2 = start.requires.whole.within _ here }
+level_at-level-requires c =
+    let here = (some_left _ _ _ _ c.requires.count_value c.if-count-eq0.false).1 in
+    record { k_in_bounds = here; k_in_bounds_2 = c.requires.whole.within _ here }
 
 -- so the first token has a context
 first-coded : {c from count prev : ℕ} {scan : List ℕ} {levels : List ℤ} → Whole c from scan levels → c ≤ from → count ≡ nonzeros_among scan levels from (length scan - from) → (count ≡ 0 → ⊥) → prev ≤ 1
@@ -45,47 +45,44 @@ token_cost-zero-requires c = let pre = c.requires in
     let whole = pre.whole in
     let some = c.if-count-eq0.false in
     let level = whole.level _ (le_refl _) (some_left _ _ _ _ pre.count_value some).1 in
-    record { coded = pre.coded; coefficient = first-coded whole pre.covered_le_from.0 pre.count_value some (lit≤ tt); t = handed-current _ _ c.level_at-level.ensures level }
+    record { coefficient = first-coded whole pre.covered_le_from.0 pre.count_value some (lit≤ tt); t = handed-current _ _ c.level_at-level.ensures level }
 
 pub token_cost-one-requires : goal.token_cost-one-requires
 token_cost-one-requires c = let pre = c.requires in
     let whole = pre.whole in
     let some = c.if-count-eq0.false in
     let level = whole.level _ (le_refl _) (some_left _ _ _ _ pre.count_value some).1 in
-    record { coded = pre.coded; coefficient = first-coded whole pre.covered_le_from.0 pre.count_value some (lit≤ tt); t = handed-current _ _ c.level_at-level.ensures level }
+    record { coefficient = first-coded whole pre.covered_le_from.0 pre.count_value some (lit≤ tt); t = handed-current _ _ c.level_at-level.ensures level }
 
 pub overflow_add-k : goal.overflow_add-k
 overflow_add-k c =
-    let start = c.before.before.before.before.before.before.before in
-    let here = (some_left _ _ _ _ start.requires.count_value c.if-count-eq0.false).1 in
+    let here = (some_left _ _ _ _ c.requires.count_value c.if-count-eq0.false).1 in
     search rules
 
 pub overflow_sub-remaining : goal.overflow_sub-remaining
 overflow_sub-remaining c =
-    let start = c.before.before.before.before.before.before.before in
     let some = c.if-count-eq0.false in
-    let level = start.requires.whole.level _ (le_refl _) (some_left _ _ _ _ start.requires.count_value some).1 in
+    let level = c.requires.whole.level _ (le_refl _) (some_left _ _ _ _ c.requires.count_value some).1 in
     let one = c.nonzero-nonzero.ensures ∙ ap nz (handed-back _ _ c.level_at-level.ensures level) in
     let small : c.nonzero-nonzero.result ≤ 1 = rw one (nz-le _) in
     omega (arith, some, small)
 
 pub add_tokens-requires : goal.add_tokens-requires
-add_tokens-requires c = let start = c.before.before.before.before.before.before.before in
-    let whole = start.requires.whole in
+add_tokens-requires c =
+    let whole = c.requires.whole in
     let some = c.if-count-eq0.false in
-    let here = (some_left _ _ _ _ start.requires.count_value some).1 in
+    let here = (some_left _ _ _ _ c.requires.count_value some).1 in
     let one = c.nonzero-nonzero.ensures ∙ ap nz (handed-back _ _ c.level_at-level.ensures (whole.level _ (le_refl _) here)) in
-    let first = among_first start.args.scan.now start.args.levels.now (length start.args.scan.now) start.args.from here in
-    record { coded = start.requires.coded; scan_len = whole.size; standing = record { ended = omega (arith, here); flag = rw one (nz-le _); left = omega (arith, start.requires.count_value, one, first); within = whole.within; level = λ k h. whole.level k (omega (arith, h)) }; covered_le_k = omega (arith, start.requires.covered_le_from.0) }
+    let first = among_first c.args.scan.now c.args.levels.now (length c.args.scan.now) c.args.from here in
+    record { scan_len = whole.size; standing = record { ended = omega (arith, here); flag = rw one (nz-le _); left = omega (arith, c.requires.count_value, one, first); within = whole.within; level = λ k h. whole.level k (omega (arith, h)) }; covered_le_k = omega (arith, c.requires.covered_le_from.0) }
 
 pub returns : goal.returns
 unfolding of_bits
 returns c =
     λ b es el w.
-    let start = c.before.before.before.before.before.before.before.before in
     let some = c.if-count-eq0.false in
-    let here = (some_left _ _ _ _ start.requires.count_value some).1 in
-    let back = handed-back _ _ c.level_at-level.ensures (start.requires.whole.level _ (le_refl _) here) in
+    let here = (some_left _ _ _ _ c.requires.count_value some).1 in
+    let back = handed-back _ _ c.level_at-level.ensures (c.requires.whole.level _ (le_refl _) here) in
     let counted = c.nonzero-nonzero.ensures in
     let sums = c.add_tokens.ensures b es el w in (
       sums.0 ∙ tokens-step _ b _ _ _ _ _ _ _ _ _ _ _ es el w back (c.token_cost-zero.ensures b w) counted here some,

@@ -6,14 +6,13 @@ use Rattle.steps.proofs.tokens.token_bits.Goals as goal
 
 pub pack_signed-value-requires : goal.pack_signed-value-requires
 pack_signed-value-requires c =
-    let start = c.before.before in
-    rw (level-back _ start.requires.t) (leb→le _ 32768 start.requires.t)
+    rw (level-back _ c.requires.t) (leb→le _ 32768 c.requires.t)
 
 pub token_bits-requires : goal.token_bits-requires
-token_bits-requires c = let start = c.before.before.before in
-    let pre = start.requires in
+token_bits-requires c =
+    let pre = c.requires in
     let value = rw (level-back _ pre.t) at c.pack_signed-value.ensures in
-    record { context_bound = omega (arith, pre.coded.offset, c.zero_density_context.ensures.1); value_bound = rw value (packed-value _ pre.t) }
+    record { context_bound = omega (arith, c.args.plan.coded.offset, c.zero_density_context.ensures.1); value_bound = rw value (packed-value _ pre.t) }
 
 pub returns : goal.returns
 unfolding token_price

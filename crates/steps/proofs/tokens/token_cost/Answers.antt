@@ -4,12 +4,11 @@ use lib.Ieee.{Float, mul, binary32}
 use Rattle.steps.proofs.tokens.token_cost.Goals as goal
 
 pub token_bits-requires : goal.token_bits-requires
-token_bits-requires c = let start = c in
-    let h = start.requires.t in
-    record { coded = start.requires.coded; coefficient = start.requires.coefficient; t = rw (current-back _ h) (current-level start.args.level h) }
+token_bits-requires c =
+    let h = c.requires.t in
+    record { coefficient = c.requires.coefficient; t = rw (current-back _ h) (current-level c.args.level h) }
 
 pub returns : goal.returns
 returns c =
-    let start = c.before.before in
-    let bits = rw (current-back _ start.requires.t) at c.token_bits.ensures in
-    λ b planned. ap (λ (x : Float). mul binary32 start.args.plan.lambda x) (bits b planned)
+    let bits = rw (current-back _ c.requires.t) at c.token_bits.ensures in
+    λ b planned. ap (λ (x : Float). mul binary32 c.args.plan.lambda x) (bits b planned)

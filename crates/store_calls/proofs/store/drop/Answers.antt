@@ -22,7 +22,7 @@ pub find-requires : goal.find-requires
 find-requires c = pass-asks c.args.room.now c.args.rec.now (lent-right _ _ c.in_ok-check_lent.ensures)
 
 pub returns-then-is_none : goal.returns-then-is_none
-returns-then-is_none c = drop-35 _ _ (lent-right _ _ c.in_ok-check_lent.ensures) (lent-below _ _ c.in_ok-check_lent.ensures) _ c.find.ensures (c.is_none.ensures ∙ ap not c.if-is_none.true)
+returns-then-is_none c = drop-35 _ _ (lent-right _ _ c.in_ok-check_lent.ensures) (lent-below _ _ c.in_ok-check_lent.ensures) _ (rw c.from-number.ensures at c.find.ensures) (c.is_none.ensures ∙ ap not c.if-is_none.true)
 
 pub remove-left-requires : goal.remove-left-requires
 remove-left-requires c = pass-asks c.args.room.now c.args.rec.now (lent-right _ _ c.in_ok-check_lent.ensures)
@@ -37,4 +37,4 @@ pub shape_of-rec : goal.shape_of-rec
 shape_of-rec c = simp length-set (search rules)
 
 pub returns : goal.returns
-returns c = drop-0 _ _ (lent-right _ _ c.in_ok-check_lent.ensures) (lent-below _ _ c.in_ok-check_lent.ensures) _ c.find.ensures (c.is_none.ensures ∙ ap not c.if-is_none.false) c.remove-left.ensures
+returns c = drop-0 _ _ (lent-right _ _ c.in_ok-check_lent.ensures) (lent-below _ _ c.in_ok-check_lent.ensures) _ (rw c.from-number.ensures at c.find.ensures) (c.is_none.ensures ∙ ap not c.if-is_none.false) (rw c.from-number.ensures at c.remove-left.ensures)

@@ -24,15 +24,15 @@ live_but-live-requires c = let l = live-within c.args.room.now c.args.rec.now (l
 pub overflow_sub-room : goal.overflow_sub-room
 overflow_sub-room c =
     let l = others-within c.args.room.now c.args.rec.now (lent-right _ _ c.in_ok-check_lent.ensures) c.args.block in
-    let e = c.live_but-live.ensures in
+    let e = (rw c.from-number.ensures at c.live_but-live.ensures) in
     omega arith
 
 pub returns-then-tokens-room : goal.returns-then-tokens-room
-returns-then-tokens-room c = put-34 _ _ _ (lent-right _ _ c.in_ok-check_lent.ensures) (lent-below _ _ c.in_ok-check_lent.ensures) _ c.live_but-live.ensures c.if-tokens-room.true
+returns-then-tokens-room c = put-34 _ _ _ (lent-right _ _ c.in_ok-check_lent.ensures) (lent-below _ _ c.in_ok-check_lent.ensures) _ (rw c.from-number.ensures at c.live_but-live.ensures) c.if-tokens-room.true
 
 pub hold-requires : goal.hold-requires
 hold-requires c =
-    hold-asks (store_of c.args.room.now c.args.rec.now) c.args.block c.args.tokens.now (lent-right _ _ c.in_ok-check_lent.ensures) (lent-below _ _ c.in_ok-check_lent.ensures) _ c.live_but-live.ensures c.if-tokens-room.false
+    rw c.from-number.ensures (hold-asks (store_of c.args.room.now c.args.rec.now) c.args.block c.args.tokens.now (lent-right _ _ c.in_ok-check_lent.ensures) (lent-below _ _ c.in_ok-check_lent.ensures) _ (rw c.from-number.ensures at c.live_but-live.ensures) c.if-tokens-room.false)
 
 pub returns : goal.returns
-returns c = put-0 _ _ _ (lent-right _ _ c.in_ok-check_lent.ensures) (lent-below _ _ c.in_ok-check_lent.ensures) _ c.live_but-live.ensures c.if-tokens-room.false c.hold.ensures
+returns c = put-0 _ _ _ (lent-right _ _ c.in_ok-check_lent.ensures) (lent-below _ _ c.in_ok-check_lent.ensures) _ (rw c.from-number.ensures at c.live_but-live.ensures) c.if-tokens-room.false (rw c.from-number.ensures at c.hold.ensures)

@@ -21,60 +21,25 @@ pub find-requires : goal.find-requires
 find-requires c = pass-asks c.args.room.now c.args.rec.now (lent-right _ _ c.in_ok-check_lent.ensures)
 
 pub returns-in_default : goal.returns-in_default
-returns-in_default c = read-35 _ _ _ (lent-right _ _ c.in_ok-check_lent.ensures) (lent-below _ _ c.in_ok-check_lent.ensures) _ c.find.ensures c.in_default.is
+returns-in_default c = read-35 _ _ _ (lent-right _ _ c.in_ok-check_lent.ensures) (lent-below _ _ c.in_ok-check_lent.ensures) _ (rw c.from.ensures at c.find.ensures) c.in_default.is
 
-pub overflow_mul-start : goal.overflow_mul-start
-overflow_mul-start c =
-    let place = found-place (store_of c.args.room.now c.args.rec.now) c.args.block c.args.tokens.now (lent-right _ _ c.in_ok-check_lent.ensures) (lent-below _ _ c.in_ok-check_lent.ensures) _ c.find.ensures _ c.in-Some.is in
-    search rules
-
-pub overflow_add-start : goal.overflow_add-start
-overflow_add-start c =
-    let place = found-place (store_of c.args.room.now c.args.rec.now) c.args.block c.args.tokens.now (lent-right _ _ c.in_ok-check_lent.ensures) (lent-below _ _ c.in_ok-check_lent.ensures) _ c.find.ensures _ c.in-Some.is in
-    search rules
-
-pub offset_bounds-rec-i : goal.offset_bounds-rec-i
-offset_bounds-rec-i c =
-    let place = found-place (store_of c.args.room.now c.args.rec.now) c.args.block c.args.tokens.now (lent-right _ _ c.in_ok-check_lent.ensures) (lent-below _ _ c.in_ok-check_lent.ensures) _ c.find.ensures _ c.in-Some.is in
-    search rules
-
-pub bounds-rec-i : goal.bounds-rec-i
-bounds-rec-i c =
-    let place = found-place (store_of c.args.room.now c.args.rec.now) c.args.block c.args.tokens.now (lent-right _ _ c.in_ok-check_lent.ensures) (lent-below _ _ c.in_ok-check_lent.ensures) _ c.find.ensures _ c.in-Some.is in
-    search rules
-
-pub overflow_mul-size : goal.overflow_mul-size
-overflow_mul-size c =
-    let place = found-place (store_of c.args.room.now c.args.rec.now) c.args.block c.args.tokens.now (lent-right _ _ c.in_ok-check_lent.ensures) (lent-below _ _ c.in_ok-check_lent.ensures) _ c.find.ensures _ c.in-Some.is in
-    search rules
-
-pub overflow_add-size : goal.overflow_add-size
-overflow_add-size c =
-    let place = found-place (store_of c.args.room.now c.args.rec.now) c.args.block c.args.tokens.now (lent-right _ _ c.in_ok-check_lent.ensures) (lent-below _ _ c.in_ok-check_lent.ensures) _ c.find.ensures _ c.in-Some.is in
-    search rules
-
-pub offset_bounds-rec-i-2 : goal.offset_bounds-rec-i-2
-offset_bounds-rec-i-2 c =
-    let place = found-place (store_of c.args.room.now c.args.rec.now) c.args.block c.args.tokens.now (lent-right _ _ c.in_ok-check_lent.ensures) (lent-below _ _ c.in_ok-check_lent.ensures) _ c.find.ensures _ c.in-Some.is in
-    search rules
-
-pub bounds-rec-i-2 : goal.bounds-rec-i-2
-bounds-rec-i-2 c =
-    let place = found-place (store_of c.args.room.now c.args.rec.now) c.args.block c.args.tokens.now (lent-right _ _ c.in_ok-check_lent.ensures) (lent-below _ _ c.in_ok-check_lent.ensures) _ c.find.ensures _ c.in-Some.is in
+pub run_at-run-requires : goal.run_at-run-requires
+run_at-run-requires c =
+    let place = found-place (store_of c.args.room.now c.args.rec.now) c.args.block c.args.tokens.now (lent-right _ _ c.in_ok-check_lent.ensures) (lent-below _ _ c.in_ok-check_lent.ensures) _ (rw c.from.ensures at c.find.ensures) _ c.in-Some.is in
     search rules
 
 pub returns-then-size-tokens : goal.returns-then-size-tokens
-returns-then-size-tokens c = read-36 _ _ _ (lent-right _ _ c.in_ok-check_lent.ensures) (lent-below _ _ c.in_ok-check_lent.ensures) _ c.find.ensures _ c.in-Some.is c.if-size-tokens.true
+returns-then-size-tokens c = read-36 _ _ _ (lent-right _ _ c.in_ok-check_lent.ensures) (lent-below _ _ c.in_ok-check_lent.ensures) _ (rw c.from.ensures at c.find.ensures) _ c.in-Some.is (rw c.run_at-run.ensures at c.if-size-tokens.true)
 
 pub copy_run-requires : goal.copy_run-requires
 copy_run-requires c =
     let ok = (lent-right _ _ c.in_ok-check_lent.ensures) in
     let s = store_of c.args.room.now c.args.rec.now in
     let w = run-within c.args.room.now c.args.rec.now ok c.args.block in
-    let a = found-start s c.args.block c.args.tokens.now ok (lent-below _ _ c.in_ok-check_lent.ensures) _ c.find.ensures _ c.in-Some.is in
-    let d = found-size s c.args.block c.args.tokens.now ok (lent-below _ _ c.in_ok-check_lent.ensures) _ c.find.ensures _ c.in-Some.is in
+    let a = found-start s c.args.block c.args.tokens.now ok (lent-below _ _ c.in_ok-check_lent.ensures) _ (rw c.from.ensures at c.find.ensures) _ c.in-Some.is in
+    let d = found-size s c.args.block c.args.tokens.now ok (lent-below _ _ c.in_ok-check_lent.ensures) _ (rw c.from.ensures at c.find.ensures) _ c.in-Some.is in
     let m = c.if-size-tokens.false in
-    (rw (a, d) at w, omega arith)
+    rw c.run_at-run.ensures ((rw (a, d) at w, omega (arith, rw c.run_at-run.ensures at m)))
 
 pub returns : goal.returns
-returns c = read-0 _ _ _ (lent-right _ _ c.in_ok-check_lent.ensures) (lent-below _ _ c.in_ok-check_lent.ensures) _ c.find.ensures _ c.in-Some.is c.if-size-tokens.false c.copy_run.ensures
+returns c = rw c.run_at-run.ensures (read-0 _ _ _ (lent-right _ _ c.in_ok-check_lent.ensures) (lent-below _ _ c.in_ok-check_lent.ensures) _ (rw c.from.ensures at c.find.ensures) _ c.in-Some.is (rw c.run_at-run.ensures at c.if-size-tokens.false) (rw c.run_at-run.ensures at c.copy_run.ensures))

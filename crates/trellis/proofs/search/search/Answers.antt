@@ -6,7 +6,7 @@ use Rattle.trellis.proofs.search.search.Goals as goal
 
 pub start_of-start-requires : goal.start_of-start-requires
 start_of-start-requires c = let s = c.requires.width_bound.1 in
-    record { coded = s.checked.coded; whole = whole-past s; length_in_bounds = window-fits s; perm = (scan-of s, levels-few s) }
+    record { whole = whole-past s; length_in_bounds = window-fits s; perm = (scan-of s, levels-few s) }
 
 pub start_row-requires : goal.start_row-requires
 start_row-requires c = omega (arith, c.requires.width_in_bounds.0)

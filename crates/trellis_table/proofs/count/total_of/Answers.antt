@@ -28,7 +28,7 @@ bounds-live-at c =
 
 pub count_cost-requires : goal.count_cost-requires
 count_cost-requires c = let pre = c.requires in
-    record { coded = pre.first_row.rowable.checked.coded; count_bound = count-few pre.first_row.rowable _ pre.first_row.counts_are _ pre.least_le_n.1 }
+    count-few pre.first_row.rowable _ pre.first_row.counts_are _ pre.least_le_n.1
 
 pub returns : goal.returns
 returns c =

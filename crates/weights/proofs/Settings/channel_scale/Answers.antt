@@ -12,9 +12,6 @@ returns-then-channel-eq1 c =
     let a = c.args in
     sym (ap (λ (b : Bool). mul binary32 a.self.channel_weight (cond b one_f (chroma_weight a.self.distance))) (eq-eqb a.channel 1 c.if-channel-eq1.true))
 
-pub chroma_rdoq_weight-requires : goal.chroma_rdoq_weight-requires
-chroma_rdoq_weight-requires c = tt
-
 pub returns : goal.returns
 unfolding channel_scale
 returns c =

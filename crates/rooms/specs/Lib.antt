@@ -1,0 +1,2 @@
+-- The working room as one value.
+pub mod Lending
