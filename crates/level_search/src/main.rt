@@ -49,7 +49,10 @@ fn take_record(
             book: block_lists::copy_book(bytes, book, lists),
             ..state
         },
-        Record::Width(half_width) => State { half_width, ..state },
+        Record::Width(half_width) => State {
+            half_width,
+            ..state
+        },
         Record::Block(block) => State {
             line: Line {
                 number: state.line.number.wrapping_add(1),
