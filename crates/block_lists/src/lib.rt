@@ -1,9 +1,10 @@
 // A record's lists, copied to where the searches take them from.
 #![tactic(auto)]
 
-ghost use Rattle.std.specs.Prelude.{length};
+ghost use Rattle.std.specs.Prelude.{◌≡◌, length};
 ghost use Rattle.block_file.specs.Within.{BookInside, BlockInside};
-ghost use Rattle.block_lists.specs.Lengths.{BookHeld};
+ghost use Rattle.block_lists.specs.Lengths.{BookHeld, lengths_in};
+ghost use Rattle.block_lists.specs.Copied.{with_book, with_block};
 
 use block_file::load;
 use block_file::record::{
@@ -73,7 +74,9 @@ pub fn no_book() -> BookLengths
 // Copies a book's lists to where they stay until the next one.
 pub fn copy_book(bytes: &[u8], book: BookRecord, lists: &mut Lists) -> BookLengths
     requires { BookInside book (length bytes.now) }
-    ensures { BookHeld result }
+    ensures held { BookHeld result }
+    ensures lengths { result ≡ lengths_in book }
+    ensures lists_after { lists.new ≡ with_book bytes.now book lists.old }
 {
     load::take_bytes(bytes, book.map, &mut lists.map);
     load::take_bytes(bytes, book.configs, &mut lists.configs);
@@ -91,6 +94,7 @@ pub fn copy_book(bytes: &[u8], book: BookRecord, lists: &mut Lists) -> BookLengt
 // Copies a block's lists.
 pub fn copy_block(bytes: &[u8], block: BlockRecord, lists: &mut Lists)
     requires { BlockInside block (length bytes.now) }
+    ensures { lists.new ≡ with_block bytes.now block lists.old }
 {
     load::take_list(bytes, block.levels, &mut lists.levels);
     load::take_list(bytes, block.scan, &mut lists.scan);

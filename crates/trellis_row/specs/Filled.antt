@@ -15,7 +15,7 @@ abbrev pub Begun : Row → ℕ → List Float → List ℕ → Type 0
 Begun row n current choices =
     RowIs (contents row.book.now) row.place row.candidates.levels.now row.next.now row.span row.least (2 * row.at) n current (unpacked choices)
 
--- all of them are, and nothing else changed
+-- all of them are, and no choice of another row changed
 pub record Filled (row : Row) (current current' : List Float) (choices choices' : List ℕ) : Type 0 where
   pub size : length current' ≡ length current
   pub elsewhere : Elsewhere (2 * row.at) (2 * (row.most + 1 - row.least)) (unpacked choices) (unpacked choices')
