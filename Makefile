@@ -47,6 +47,7 @@ test:
 	@mkdir -p target
 	@rt ci | tee target/ci.log | awk 'NR > 1 { print last; fflush() } { last = $$0 } END { print last > "target/verdict.txt" }'
 	@tools/edit_logs.sh target/ci.log
+	@(cd crates/level_search && rt try) < examples/blocks.bin 2> target/try.log | diff - examples/blocks.txt || { cat target/try.log >&2; echo 'level_search, built without a proof as by make run, does not print examples/blocks.txt' >&2; exit 1; }
 	@$(MAKE) bindings > target/bindings.log 2>&1 || { cat target/bindings.log; exit 1; }
 	@grep '^bindings:' target/bindings.log
 	@if command -v cargo > /dev/null && [ -f "$(JIXEL_SRC)/src/group/trellis.rs" ]; then $(MAKE) compare N=100; \

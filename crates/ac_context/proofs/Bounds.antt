@@ -9,7 +9,7 @@ use lib.Pow.{pow_pos, pow_mono}
 use mir.Val.{bool_byte}
 use lib.Dec.{T, lit<, lit≤, ltb, leb, ltb→lt, leb→le}
 use lib.ListN.{length, get_or}
-use Rattle.ac_context.specs.Contexts.{strategy_order, block_context_map, channel_row, coeff_freq_context, coeff_num_nonzero_context, zero_density_context, Coefficient, Covered}
+use Rattle.ac_context.specs.Contexts.{strategy_order, block_context_map, channel_row, coeff_freq_context, coeff_num_nonzero_context, zero_density_context, Coefficient, Covered, block_context}
 use Rattle.laws.proofs.Table.{at, every, follows, between}
 
 below : ℕ → ℕ → ℕ → Bool
@@ -26,6 +26,10 @@ row_below c h = ltb→lt _ _ (at (below 3) channel_row tt c h)
 pub map_below : (i : ℕ) → i < 39 → get_or block_context_map i 0 < 15
 unfolding below block_context_map
 map_below i h = ltb→lt _ _ (at (below 15) block_context_map tt i h)
+
+pub block_context-below : (c code : ℕ) → c < 3 → code < 27 → block_context c code < 15
+unfolding block_context
+block_context-below c code p q = map_below _ (omega (arith, order_below code q, row_below c p))
 
 pub freq-below : (i : ℕ) → i < 64 → get_or coeff_freq_context i 0 < 31
 unfolding below coeff_freq_context

@@ -2,7 +2,7 @@
 use mathlib.Core.Path.{◌≡◌, refl, sym, ap, ◌∙◌}
 use mathlib.Core.Bool.{Bool, true, false, ◌||◌}
 use mathlib.Core.List.{List, [], ◌∷◌, ◌++◌}
-use Prim.Native.Nat.{ℕ, suc, ◌+◌, ◌<◌}
+use Prim.Native.Nat.{ℕ, suc, ◌+◌, ◌<◌, zero}
 use native.Mathlib.Numerals.{add-one}
 use native.Mathlib.Omega.{arith}
 use lib.Dec.{eqb}
@@ -14,6 +14,7 @@ use Rattle.beam_paths.specs.Path.{Path}
 use Rattle.beam_paths.specs.Step.{has, naming, counts_named}
 use Rattle.beam_paths.specs.Held.{no_path, PathsFor}
 use Rattle.beam_paths.specs.declared.Paths.{Paths}
+use native.Mathlib.Nat.{le_of_suc-le-suc, not-suc-le-zero}
 
 or-false : (b : Bool) → b || false ≡ b
 or-false true = refl
@@ -27,6 +28,26 @@ has_more : (n : ℕ) (ns : List ℕ) (m : ℕ) → has n (ns ++ (m ∷ [])) ≡ 
 unfolding has
 has_more n [] m = or-false (eqb n m)
 has_more n (k ∷ ns) m = ap (λ (b : Bool). eqb n k || b) (has_more n ns m) ∙ sym (or_assoc (eqb n k) (has n ns) (eqb n m))
+
+or-true : (b : Bool) → b || true ≡ true
+or-true true = refl
+or-true false = refl
+
+-- a count that stands in the list is found
+pub has-at : (n : ℕ) (ns : List ℕ) (i : ℕ) → i < length ns → get_or ns i 0 ≡ n → has n ns ≡ true
+unfolding has
+has-at n [] i h e = absurd (not-suc-le-zero h)
+has-at n (m ∷ ns) zero h e = ap (λ (b : Bool). b || has n ns) (eq-eqb n m (sym e))
+has-at n (m ∷ ns) (suc i) h e = ap (λ (b : Bool). eqb n m || b) (has-at n ns i (le_of_suc-le-suc h) e) ∙ or-true (eqb n m)
+
+-- one entry more that is another
+pub has-next : (n : ℕ) (ns : List ℕ) (i : ℕ) → i < length ns → (get_or ns i 0 ≡ n → ⊥) → has n (take i ns) ≡ false → has n (take (suc i) ns) ≡ false
+has-next n ns i h other none =
+    ap (has n) (take-suc ns i 0 h) ∙ has_more n (take i ns) (get_or ns i 0) ∙ ap (λ (b : Bool). b || eqb n (get_or ns i 0)) none ∙ ne_eqb n (get_or ns i 0) (λ e. other (sym e))
+
+pub has-none : (n : ℕ) → has n [] ≡ false
+unfolding has
+has-none n = refl
 
 -- the slice's own search
 same : (m n : ℕ) → eqb m n ≡ eqb n m

@@ -235,3 +235,6 @@ module _ (w : ℕ) (v : Window) (book : Book) (b : Block) (room : Bool) where
   pub refused-block : book_refusal book ≡ 0 → search_refusal w v book b room ≡ block_refusal w v b (cond room 0 14)
   unfolding search_refusal
   refused-block ok = rw (eq-eqb (book_refusal book) 0 ok)
+
+pub width-refused : (w : ℕ) (v : Window) (b : Block) → form_refusal b ≡ 0 → valid_width w ≡ false → 26 ≡ block_refusal w v b 0
+width-refused w v b e t = sym (form-passed w v b e ∙ ap (λ (x : Bool). cond x (content_refusal v b) 26) t)

@@ -1,11 +1,11 @@
 -- The sides of a block: powers of two, and so is their product. Assumes nothing.
 use mathlib.Core.Path.{◌≡◌, refl, sym, ◌∙◌, ap₂}
-use mathlib.Core.Bool.{Bool, true, false, ◌||◌, false≢true}
+use mathlib.Core.Bool.{Bool, true, false, ◌||◌, false≢true, or-false}
 use mathlib.Core.Logic.{◌⊎◌, inl, inr, ⊎_elim}
 use Prim.Native.Nat.{ℕ, zero, suc, ◌+◌, ◌*◌, ◌^◌, ◌≤◌, ◌<◌}
 use native.Mathlib.Nat.{mul-le-mul}
 use native.Mathlib.Omega.{arith}
-use borrow.Author.Tests.{eqb-true}
+use borrow.Author.Tests.{eqb-true, ne_eqb}
 use lib.Dec.{eqb}
 use lib.Pow.{pow-add, pow_mono}
 use Rattle.ac_context.specs.Contexts.{is_power_below, Covered}
@@ -34,3 +34,8 @@ sides-covered x y e d =
     let v = power-of 6 x e in
     let w = power-of 6 y d in
     (v.0 + w.0, record { power = ap₂ ◌*◌ v.2 w.2 ∙ sym (pow-add 2 v.0 w.0); most = omega arith })
+
+-- the last test of a side
+pub last-side : (x : ℕ) → (x ≡ 32 → ⊥) → (x ≡ 16 → ⊥) → (x ≡ 8 → ⊥) → (x ≡ 4 → ⊥) → (x ≡ 2 → ⊥) → eqb x 1 ≡ is_power_below 6 x
+unfolding is_power_below
+last-side x a b c d e = rw (ne_eqb x 32 a, ne_eqb x 16 b, ne_eqb x 8 c, ne_eqb x 4 d, ne_eqb x 2 e) (sym (or-false (eqb x 1)))

@@ -41,6 +41,9 @@ module _ (v : ℤ) (f : SFits w32 v) (t : lt_z (to_z w32 (of_z w32 v)) (pos 0) �
   below-zero : lt_z v (pos 0) ≡ true
   below-zero = subst (λ (z : ℤ). lt_z z (pos 0) ≡ true) (back v f) t
 
+  pub mirrored-fits : SFits w32 (negsuc 0 -ℤ to_z w32 (of_z w32 v))
+  mirrored-fits = rw (back v f, mirrored v f below-zero) (small v f)
+
   pub mirrored-back : to_z w32 (of_z w32 (negsuc 0 -ℤ to_z w32 (of_z w32 v))) ≡ pos (mag v)
   mirrored-back =
       ap (λ (z : ℤ). to_z w32 (of_z w32 (negsuc 0 -ℤ z))) (back v f)
@@ -57,3 +60,7 @@ module _ (v : ℤ) (f : SFits w32 v) (t : lt_z (to_z w32 (of_z w32 v)) (pos 0) �
 pub not_negative : (v : ℤ) → SFits w32 v → lt_z (to_z w32 (of_z w32 v)) (pos 0) ≡ false → T (non_neg v)
 not_negative (pos n) f t = tt
 not_negative (negsuc n) f t = absurd (true≢false (subst (λ (z : ℤ). lt_z z (pos 0) ≡ false) (back (negsuc n) f) t))
+
+pub not-larger : (v : ℤ) → nat_abs v ≤ mag v + 1
+not-larger (pos n) = omega arith
+not-larger (negsuc n) = omega arith

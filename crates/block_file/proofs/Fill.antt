@@ -2,7 +2,7 @@
 use mathlib.Core.Path.{◌≡◌, refl, sym, ap, subst, ◌∙◌}
 use mathlib.Core.List.{List, [], ◌∷◌, ◌++◌}
 use Prim.Native.Nat.{ℕ, zero, suc, ◌+◌, ◌-◌, ◌<◌, ◌≤◌}
-use native.Mathlib.Nat.{not-suc-le-zero, le_of_suc-le-suc}
+use native.Mathlib.Nat.{not-suc-le-zero, le_of_suc-le-suc, le_antisymm}
 use native.Mathlib.Numerals.{add-one}
 use native.Mathlib.Omega.{arith}
 use lib.ListN.{length, set, drop, take, get_or}
@@ -25,6 +25,15 @@ fill_more {A} {s} f n d {v} l h e =
     ap (λ (t : List A). set t n v) e
     ∙ ap (λ (w : A). set (listed f n ++ drop n d) n w) h
     ∙ subst (λ (k : ℕ). set (listed f n ++ drop n d) n (f n) ≡ listed f k ++ drop k d) (sym (add-one n)) (fill_suc f n d l)
+
+fill-whole : {A : Type 0} (f : ℕ → A) (d : List A) → listed f (length d) ++ drop (length d) d ≡ listed f (length d)
+unfolding listed
+fill-whole f [] = refl
+fill-whole {A} f (x ∷ d) = ap (λ (t : List A). f 0 ∷ t) (fill-whole (λ i. f (suc i)) d)
+
+-- after the last
+pub filled : {A : Type 0} {s : List A} (f : ℕ → A) (n : ℕ) (d : List A) → n ≤ length d → length d ≤ n → s ≡ listed f n ++ drop n d → s ≡ listed f (length d)
+filled {A} {s} f n d a b e = subst (λ (k : ℕ). s ≡ listed f k ++ drop k d) (le_antisymm a b) e ∙ fill-whole f d
 
 -- ---- a list that is copied whole
 listed-same : {A : Type 0} (f g : ℕ → A) (n : ℕ) → ((i : ℕ) → f i ≡ g i) → listed f n ≡ listed g n

@@ -28,26 +28,6 @@ pub struct Lists {
     pub row_b: [f32; ROW],
 }
 
-impl Lists {
-    // All zeros.
-    pub fn new() -> Lists {
-        Lists {
-            map: [0; MAP],
-            configs: [0; CONFIGS],
-            symbols: [0.0; SYMBOLS],
-            ready: [0.0; READY],
-            levels: [0; LEVELS],
-            scan: [0; LEVELS],
-            source: [0.0; LEVELS],
-            inv_qm: [0.0; LEVELS],
-            work: [0; LEVELS],
-            choices: [0; CHOICES],
-            row_a: [0.0; ROW],
-            row_b: [0.0; ROW],
-        }
-    }
-}
-
 // The latest book's number of clusters, and the lengths of its lists.
 #[derive(Clone, Copy)]
 pub struct BookLengths {

@@ -9,7 +9,7 @@ use lib.IntN.{pos}
 use lib.Ieee.{Float, nan, inf, fin, up, down, add, of_int, lt, eq, is_nan, ne, fits, to_bits, binary32}
 use lib.Ieee.Bits.{is_true}
 use lib.Ieee.Fits.{and_l, and_r, down_pos}
-use lib.Ieee.Compare.{differs_from_itself, nan_differs}
+use lib.Ieee.Compare.{nan_differs}
 use borrow.Author.Tests.{eq-eqb, ne_eqb}
 use mathlib.Core.List.{List}
 use Rattle.costs.specs.Cost.{cost}
@@ -19,6 +19,12 @@ use Rattle.prices.proofs.Costs.{cluster-cost, symbol-priced, sum-above}
 use Rattle.book_rows.specs.Row.{Row, above}
 use Rattle.prices.specs.Checks.{symbol_price, same_bits}
 use Rattle.prices.proofs.Passed.{Sound, same_float}
+
+pub no_nan : (x : Float) → ne x x ≡ false → T (not (is_nan x))
+unfolding is_nan
+no_nan nan e = absurd (false≢true (sym e ∙ nan_differs))
+no_nan (inf s) e = tt
+no_nan (fin s m d) e = tt
 
 is-nan : (x : Float) → is_nan x ≡ true → x ≡ nan
 unfolding is_nan
@@ -41,9 +47,18 @@ nan-bits x y e h fx fy = go (same_bits x y) refl
     go true d = absurd (subst (λ (z : Float). T (cost z)) (sym (same_float fx fy d) ∙ is-nan x e) h)
     go false d = refl
 
-same_bits_lem : (x y : Float) → to_bits binary32 x ≡ to_bits binary32 y → same_bits x y ≡ true
+pub same_bits_lem : (x y : Float) → to_bits binary32 x ≡ to_bits binary32 y → same_bits x y ≡ true
 unfolding same_bits
 same_bits_lem x y e = eq-eqb _ _ e
+
+pub other-bits : (x y : Float) → (to_bits binary32 x ≡ to_bits binary32 y → ⊥) → same_bits x y ≡ false
+unfolding same_bits
+other-bits x y e = ne_eqb _ _ e
+
+-- every price of a cluster is a cost
+pub row-cost : {configs : List ℕ} {symbols ready : List Float} {k : ℕ} → Row configs symbols ready k → (v : ℕ) → v ≤ 131071 → T (cost (cluster_price configs symbols k v))
+row-cost {configs} {symbols} {ready} {k} r v h =
+    cluster-cost configs symbols k v h (symbol-priced symbols k (cluster_symbol configs k v) r.prices)
 
 pub sound-row : (b : Book) → Sound b → (k : ℕ) → k < b.clusters → Row b.configs b.symbols b.ready k
 sound-row b p k h =

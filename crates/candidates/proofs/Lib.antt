@@ -1,4 +1,5 @@
 pub mod Rounding
 pub mod Levels
 pub mod Lists
+pub mod Sizes
 pub mod Laws

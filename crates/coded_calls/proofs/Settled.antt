@@ -11,6 +11,12 @@ use Rattle.block_tokens.specs.Code.{code_in}
 use Rattle.block_tokens.specs.Writing.{Outputs, WriteResult, wrote, write_result}
 use Rattle.block_tokens.specs.Reading.{read_tokens}
 use Rattle.block_tokens.specs.Outcome.{Given, lent_refusal, write_outcome, ReadResult, read_as, read_result, read_outcome}
+use Rattle.coding.specs.Coding.{Coded}
+use Rattle.block_tokens.specs.Passed.{Passed}
+
+-- a code that passed
+pub coded : {g : Given} {levels : List ℤ} → Passed g levels → Coded g.coding.map g.coding.configs
+coded {g} p = record { clusters = g.coding.clusters; codes = p.codes }
 
 module _ (g : Given) (levels : List ℤ) {n : ℕ} (e : n ≡ lent_refusal g levels) where
   module _ (some : n ≡ 0 → ⊥) where

@@ -189,6 +189,16 @@ not-le→lt x y a b h = subst (λ (p : Bool). T p) (sym (lt-is x y a b)) (not_T 
 pub lt-le-trans : (x y z : Float) → T (cost x) → T (cost y) → T (cost z) → T (lt x y) → T (le y z) → T (lt x z)
 lt-le-trans x y z a b c h k = not-le→lt x z a c (λ (l : T (le z x)). lt→not-le x y a b h (le_trans y z x b c a k l))
 
+pub le_lt_trans : (x y z : Float) → T (cost x) → T (cost y) → T (cost z) → T (le x y) → T (lt y z) → T (lt x z)
+le_lt_trans x y z a b c h k = not-le→lt x z a c (λ (l : T (le z x)). lt→not-le y z b c k (le_trans z x y c a b l h))
+
+pub le_total : (x y : Float) → T (cost x) → T (cost y) → T (le x y) ⊎ T (le y x)
+le_total x y a b = go (lt x y) (lt→le x y) (not-lt→le x y a b)
+  where
+    go : (p : Bool) → (T p → T (le x y)) → (T (not p) → T (le y x)) → T (le x y) ⊎ T (le y x)
+    go true h k = inl (h tt)
+    go false h k = inr (k tt)
+
 -- ---- `==` is `≤` both ways
 pub eq_is : (x y : Float) → T (cost x) → T (cost y) → eq x y ≡ (le x y && le y x)
 unfolding eq le

@@ -1,6 +1,6 @@
 -- Products of costs: a positive finite factor times a cost is a cost, larger with each factor, and +infinity where the cost is. A square of anything but a NaN is a cost.
 -- Assumes nothing.
-use mathlib.Core.Path.{◌≡◌, sym, subst}
+use mathlib.Core.Path.{◌≡◌, sym, subst, refl}
 use Prim.Native.Nat.{ℕ, ◌*◌, ◌≤◌, ◌<◌}
 use native.Mathlib.Nat.{le_of_eq, mul-pos, mul-le-mul, mul-mul-mul_comm}
 use native.Mathlib.Nat as Nat
@@ -8,7 +8,7 @@ use native.Mathlib.Omega.{arith}
 use mathlib.Core.Bool.{true, false, not}
 use lib.IntN.{ℤ}
 use lib.Dec.{T, eqb, ltb→lt, eqb→eq, not_T}
-use lib.Ieee.{Float, nan, inf, fin, Format, up, down, mul, le, is_nan}
+use lib.Ieee.{Float, nan, inf, fin, Format, up, down, mul, le, is_nan, round}
 use lib.Ieee.Bits.{cond_no}
 use lib.Ieee.Fits.{down_pos}
 use lib.Ieee.Order.{round_mono}
@@ -50,6 +50,10 @@ mul-inf f x h = go (factored x h)
     go : {x : Float} → Factor x → mul f x (inf false) ≡ inf false
     go (factor m e p) = cond_no (eqb m 0) nan (inf false) (not-zero m p)
 
+pub mul-fin : (f : Format) (m : ℕ) (e : ℤ) (n : ℕ) (d : ℤ) → mul f (fin false m e) (fin false n d) ≡ round f false (m * up e * (n * up d)) (down e * down d)
+unfolding mul
+mul-fin f m e n d = refl
+
 pub mul-cost : (f : Format) (x y : Float) → T (positive x) → T (cost y) → T (cost (mul f x y))
 unfolding mul
 mul-cost f x y p b = go (factored x p) (view y b)
@@ -86,6 +90,9 @@ mul_mono f x y x' y' a b c d = go (factored x a) (view y b) (factored x' c) (vie
     go (factor i u p) (at-fin j w) (factor m e q) (at-fin n d) h k =
         round_mono f (i * up u * (j * up w)) (down u * down w) (m * up e * (n * up d)) (down e * down d) (mul-pos (down_pos u) (down_pos w)) (mul-pos (down_pos e) (down_pos d))
         (product-cross (i * up u) (down u) (j * up w) (down w) (m * up e) (down e) (n * up d) (down d) (Order.le→cross i u m e h) (Order.le→cross j w n d k))
+
+pub mul-mono-right : (f : Format) (x y y' : Float) → T (positive x) → T (cost y) → T (cost y') → T (le y y') → T (le (mul f x y) (mul f x y'))
+mul-mono-right f x y y' a b c h = mul_mono f x y x y' a b a c (Order.le_refl x (positive-cost x a)) h
 
 -- ---- a square
 pub square-cost : (f : Format) (x : Float) → T (not (is_nan x)) → T (cost (mul f x x))

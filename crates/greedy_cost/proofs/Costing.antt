@@ -9,7 +9,7 @@ use lib.IntN.{ℤ, pos}
 use lib.ListN.{length, get_or, drop}
 use lib.Seq.{drop-cons, drop-length}
 use lib.Ieee.{Float, inf, lt, add, mul, binary32}
-use borrow.Author.Tests.{eq-eqb, ne_eqb}
+use borrow.Author.Tests.{eq-eqb, ne_eqb, le-leb, lt-leb}
 use Rattle.bias.specs.Level.{is_level}
 use Rattle.block.specs.Block.{Block, covered}
 use Rattle.block.specs.Cost.{distortion, rate, token_price, first_prev, count_cost}
@@ -30,6 +30,14 @@ module _ (b : Block) (c i front count : ℕ) (e : c ≡ covered b) where
   pub prev-first : i ≡ 0 → cond (leb count (64 * c / 16)) 1 0 ≡ prev_of b i front count
   unfolding prev_of first_prev
   prev-first first = rw (eq-eqb i 0 first, ← e)
+
+  pub prev-few : i ≡ 0 → count ≤ 64 * c / 16 → 1 ≡ prev_of b i front count
+  unfolding prev_of first_prev
+  prev-few first few = rw (eq-eqb i 0 first, ← e, le-leb count (64 * c / 16) few)
+
+  pub prev-many : i ≡ 0 → 64 * c / 16 < count → 0 ≡ prev_of b i front count
+  unfolding prev_of first_prev
+  prev-many first many = rw (eq-eqb i 0 first, ← e, lt-leb count (64 * c / 16) many)
 
   pub prev-front : (i ≡ 0 → ⊥) → front ≡ prev_of b i front count
   unfolding prev_of

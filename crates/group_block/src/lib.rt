@@ -9,11 +9,10 @@ ghost use Rattle.block.specs.Block.{covered};
 ghost use Rattle.rooms.specs.Lending.{SameBuffers, lent_in, result_in};
 ghost use Rattle.prices.specs.Contents.{contents};
 ghost use Rattle.searches.specs.Outcome.{search_outcome};
-ghost use Rattle.group_list.specs.Heads.{blocks_in};
 ghost use Rattle.group_run.specs.Block.{shape_of, settings_of, bias_of, size};
 ghost use Rattle.weights.specs.Window.{window_of};
 ghost use Rattle.group_block.specs.Part.{in_place, block_from, Stepped};
-ghost use Rattle.group_block.specs.Lists.{head_in, numbers_in, room_in, IsLent};
+ghost use Rattle.group_block.specs.Lists.{head_in, numbers_in, room_in, IsListed, IsLent};
 
 use bias::DequantBias;
 use block::{Answer, BlockData, Shape};
@@ -32,9 +31,9 @@ fn narrow(x: u32) -> u8
 }
 
 // Block i's shape.
-#[tactic(auto, unfolding(group_list::specs::Heads::head_at), using(group_list::proofs::Passed::here_placed, group_list::proofs::Passed::here_floats))]
+#[tactic(auto, unfolding(group_list::specs::Heads::head_at))]
 fn shape_at(lists: &Lists, i: usize, predicted: u8) -> Shape
-    requires { i < blocks_in lists.now.words.now }
+    requires { IsListed i lists.now }
     ensures { result ≡ shape_of (head_in lists.now i) predicted }
 {
     let words = lists.words;
@@ -51,9 +50,9 @@ fn shape_at(lists: &Lists, i: usize, predicted: u8) -> Shape
 }
 
 // Block i's settings.
-#[tactic(auto, unfolding(group_list::specs::Heads::head_at), using(group_list::proofs::Passed::here_placed, group_list::proofs::Passed::here_floats))]
+#[tactic(auto, unfolding(group_list::specs::Heads::head_at))]
 fn settings_at(lists: &Lists, i: usize) -> Settings
-    requires { i < blocks_in lists.now.words.now }
+    requires { IsListed i lists.now }
     ensures { result ≡ settings_of (head_in lists.now i) }
 {
     let reals = lists.reals;
@@ -66,9 +65,9 @@ fn settings_at(lists: &Lists, i: usize) -> Settings
 }
 
 // Block i's bias.
-#[tactic(auto, unfolding(group_list::specs::Heads::head_at), using(group_list::proofs::Passed::here_placed, group_list::proofs::Passed::here_floats))]
+#[tactic(auto, unfolding(group_list::specs::Heads::head_at))]
 fn bias_at(lists: &Lists, i: usize) -> DequantBias
-    requires { i < blocks_in lists.now.words.now }
+    requires { IsListed i lists.now }
     ensures { result ≡ bias_of (head_in lists.now i) }
 {
     DequantBias {
@@ -78,7 +77,6 @@ fn bias_at(lists: &Lists, i: usize) -> DequantBias
 }
 
 // Searches a block with the count predicted for it.
-#[tactic(auto, using(group_list::proofs::Passed::here_floats))]
 fn search_at(
     search: Search,
     book: &PriceBook,
@@ -88,7 +86,7 @@ fn search_at(
     levels: &mut [i32],
     room: &mut Room,
 ) -> Answer
-    requires index { part.index < blocks_in lists.now.words.now }
+    requires listed { IsListed part.index lists.now }
     requires lent { IsLent part lists.now levels.old }
     ensures same { SameBuffers room.old room.new }
     ensures outcome { let h = head_in lists.now part.index in
@@ -131,7 +129,7 @@ pub fn settle_part(
     room: &mut Room,
     cells: &mut [u8],
 ) -> Answer
-    requires index { part.index < blocks_in lists.now.words.now }
+    requires listed { IsListed part.index lists.now }
     requires n_is_size { part.n ≡ size (head_in lists.now part.index) }
     requires lent { IsLent part lists.now levels.old }
     requires cells_len { length cells.old ≡ 3072 }

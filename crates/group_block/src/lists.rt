@@ -1,8 +1,5 @@
 // A group's list and the numbers of its blocks as one value.
-ghost use Rattle.std.specs.Prelude.{◌≡◌};
-ghost use Rattle.group_list.specs.Checks.{list_refusal};
-
-// A list that passed its checks, eight words and seven floats a block, and what is lent block after block besides the levels.
+// A list, eight words and seven floats a block, and what is lent block after block besides the levels.
 #[derive(Clone, Copy)]
 pub struct Lists<'a> {
     pub words: &'a [u32],
@@ -10,7 +7,6 @@ pub struct Lists<'a> {
     pub scans: &'a [u32],
     pub sources: &'a [f32],
     pub inv_qms: &'a [f32],
-    ghost passed: { list_refusal words.now reals.now ≡ 0 },
 }
 
 // Block `index` of a list, whose n numbers of each kind start at `at`.

@@ -4,6 +4,7 @@
 ghost use Rattle.std.specs.Prelude.{◌≡◌, ◌&&◌, [], ◌-◌, ◌≤◌, leb, length};
 ghost use Rattle.rooms.specs.Lending.{SameBuffers, lent_in};
 ghost use Rattle.group_cells.specs.Grid.{Grid};
+ghost use Rattle.group_list.specs.Checks.{list_refusal};
 ghost use Rattle.group_block.specs.Lists.{numbers_in, room_in};
 ghost use Rattle.group_run.specs.Demand.{Promised};
 ghost use Rattle.group_run.specs.Group.{group_of};
@@ -31,7 +32,7 @@ fn enough(lists: &Lists, part: Part, levels: &[i32]) -> bool
         && n <= levels.len() - at
 }
 
-// Settles the blocks of a list until one is refused. `cells` are all 0.
+// Settles the blocks of a list that passed its checks until one is refused. `cells` are all 0.
 fn run_list(
     search: Search,
     book: &PriceBook,
@@ -40,7 +41,8 @@ fn run_list(
     room: &mut Room,
     cells: &mut [u8],
 ) -> Answer
-    requires { Grid [] cells.old }
+    requires passed { list_refusal lists.now.words.now lists.now.reals.now ≡ 0 }
+    requires grid { Grid [] cells.old }
     ensures same { SameBuffers room.old room.new }
     ensures ran { Ran search (contents book.now) lists.now.words.now lists.now.reals.now
         (numbers_in lists.now levels.old)

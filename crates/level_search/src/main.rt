@@ -7,7 +7,7 @@ ghost use Rattle.std.specs.Prelude.{◌≤◌, length};
 ghost use Rattle.block_file.specs.Within.{RecordInside};
 ghost use Rattle.level_search.specs.State.{Sound};
 
-use block_file::record::{Flaw, Record};
+use block_file::record::{CHOICES, CONFIGS, Flaw, LEVELS, MAP, READY, ROW, Record, SYMBOLS};
 use block_input::Held;
 use block_lists::{BookLengths, Lists};
 use block_search::Line;
@@ -84,7 +84,21 @@ fn finish(out: &[u8; OUT], used: usize, held: Held)
 fn main() {
     let mut input = block_input::input_room();
     let mut out = io::large_buffer();
-    let mut lists = Lists::new();
+    // Made here: handed back by a call they would lie on the stack twice where the program is built without a proof, which is more than there is.
+    let mut lists = Lists {
+        map: [0; MAP],
+        configs: [0; CONFIGS],
+        symbols: [0.0; SYMBOLS],
+        ready: [0.0; READY],
+        levels: [0; LEVELS],
+        scan: [0; LEVELS],
+        source: [0.0; LEVELS],
+        inv_qm: [0.0; LEVELS],
+        work: [0; LEVELS],
+        choices: [0; CHOICES],
+        row_a: [0.0; ROW],
+        row_b: [0.0; ROW],
+    };
     let mut state = beginning();
     let mut held = block_input::next_record(&mut input, block_input::nothing_yet());
     // A proved loop has to end, and nothing says that a file does: no run uses this number up.

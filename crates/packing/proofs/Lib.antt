@@ -1,3 +1,4 @@
+mod Shifts
 mod Past
 mod Decoded
 pub mod Signed

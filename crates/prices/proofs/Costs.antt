@@ -194,6 +194,9 @@ module _ (configs : List ℕ) (symbols : List Float) (k v : ℕ) (hv : v ≤ 131
 pub symbol-passes : (b : Book) → Sound b → (k v : ℕ) → k < b.clusters → v ≤ 131071 → symbol_price (symbol_at b.symbols k (cluster_symbol b.configs k v)) ≡ true
 symbol-passes b p k v hk hv = symbol-priced b.symbols k (cluster_symbol b.configs k v) (λ i h. p.priced _ (omega arith))
 
+pub sound-cost : (b : Book) → Sound b → (k v : ℕ) → k < b.clusters → v ≤ 131071 → T (cost (cluster_price b.configs b.symbols k v))
+sound-cost b p k v hk hv = cluster-cost b.configs b.symbols k v hv (symbol-passes b p k v hk hv)
+
 -- the price of the symbol of value v in a context
 unfoldable pub symbol_price_of : Book → ℕ → ℕ → Float
 symbol_price_of b context v = symbol_at b.symbols (get_or b.map context 0) (cluster_symbol b.configs (get_or b.map context 0) v)
@@ -210,6 +213,9 @@ module _ (b : Book) (ok : book_refusal b ≡ 0) (context v : ℕ) (hc : context 
   unfolding price symbol_price_of
   price-capped = cluster-capped b.configs b.symbols (get_or b.map context 0) v hv context-symbol
 
+  pub price-cost : T (cost (price b context v))
+  price-cost = capped-cost binary32 1041 149 (price b context v) price-capped
+
   -- It is finite exactly where the price of the value's symbol is.
   pub price-finite : T (finite (symbol_price_of b context v)) → T (finite (price b context v))
   unfolding price symbol_price_of
@@ -218,3 +224,8 @@ module _ (b : Book) (ok : book_refusal b ≡ 0) (context v : ℕ) (hc : context 
   pub price-infinite : symbol_price_of b context v ≡ inf false → price b context v ≡ inf false
   unfolding price cluster_price symbol_price_of
   price-infinite e = rw e (inf-add binary32 _ (extra-cost _))
+
+  pub infinite-symbol : price b context v ≡ inf false → symbol_price_of b context v ≡ inf false
+  infinite-symbol e =
+      ⊎_elim (λ p. absurd (subst (λ (x : Float). T (finite x)) e (price-finite p))) (λ p. p)
+      (kinds (symbol_price_of b context v) context-symbol)

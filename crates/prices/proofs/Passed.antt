@@ -84,6 +84,18 @@ two b e =
     let t2 = through (check2 b) 0 1 t1.1 in
     (t1.0, t2.0)
 
+pub two-first : (b : Book) → (first_two b 0 ≡ 0 → ⊥) → first_two b 0 ≡ fill_refusal b
+unfolding fill_refusal first_five first_two
+two-first b = go (check1 b) (check2 b)
+  where
+    later : ℕ
+    later = cond (check3 b) (cond (check4 b) (cond (check5 b) 0 5) 4) 3
+
+    go : (c1 c2 : Bool) → (◌≡◌ {A = ℕ} (cond c1 (cond c2 0 2) 1) 0 → ⊥) → ◌≡◌ {A = ℕ} (cond c1 (cond c2 0 2) 1) (cond c1 (cond c2 later 2) 1)
+    go true true ne = absurd (ne refl)
+    go true false ne = refl
+    go false c2 ne = refl
+
 -- Checks 1 to 6 are checks 1 to 5 and then the sixth.
 chain : (c1 c2 c3 c4 c5 : Bool) → ℕ → ℕ
 chain c1 c2 c3 c4 c5 later = cond c1 (cond c2 (cond c3 (cond c4 (cond c5 later 5) 4) 3) 2) 1

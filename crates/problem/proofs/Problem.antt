@@ -64,6 +64,11 @@ zero-capped = tt
 grown : (m n : ℕ) (x : Float) → m ≤ n → T (capped binary32 m 194 x) → T (capped binary32 n 194 x)
 grown m n x h = capped-more binary32 m 194 n 194 x (mul-le-mul_right (2 ^ 194) h)
 
+-- what a state within reach counts fits behind its position
+pub reach-fits : (v : Window) (b : Block) → covered b + v.length ≤ 64 * covered b → (i n r : ℕ) → i + n ≡ v.length → Reach (past_window v b) n r → r + (covered b + i) ≤ 64 * covered b
+unfolding past_length
+reach-fits v b fits i n r e R = omega (arith, R.most, past-most v b)
+
 module _ (book : Book) (ok : book_refusal book ≡ 0) (v : Window) (b : Block) (P : Passed v b) where
   -- ---- the tail
   pub input-token : (r k prev : ℕ) → covered b ≤ k → k < 64 * covered b → T (capped binary32 1041 149 (token_price book b r k prev (input_at b k)))

@@ -140,3 +140,9 @@ marked-once {s} {m} t marked =
 
 abbrev pub clear : ℕ → List ℕ
 clear n = replicate n 0
+
+pub marks-clear :
+    (n : ℕ) (s : List ℕ) → 0 < n → length s ≤ n
+    → ((0 < length (clear n)) × (length s ≤ length (clear n))) × ((i : ℕ) → i < length s → get_or (clear n) i 0 ≡ 0)
+marks-clear n s some room =
+    ((rw length-replicate some, rw length-replicate room), λ i h. get_or-replicate n i 0 0 (omega arith))

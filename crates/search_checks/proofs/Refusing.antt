@@ -1,5 +1,5 @@
 -- What the checks of a search let pass. Assumes nothing.
-use mathlib.Core.Path.{◌≡◌, refl, sym, ap, ◌∙◌, subst⁻¹}
+use mathlib.Core.Path.{◌≡◌, refl, sym, ap, ◌∙◌, subst⁻¹, subst}
 use mathlib.Core.Bool.{Bool, true, false, cond, ◌&&◌}
 use Prim.Native.Nat.{ℕ, ◌*◌, ◌≤◌, ◌<◌}
 use lib.Dec.{leb, leb→le, leb-zero}
@@ -15,6 +15,7 @@ use Rattle.steps.specs.declared.plan.Plan.{Plan}
 use Rattle.weights.specs.Window.{window_for}
 use Rattle.weights.specs.declared.Window.{Window}
 use Rattle.search_checks.specs.Checked.{Accepted, Checked}
+use Rattle.prices.proofs.Passed.{listed, by-lists}
 
 -- ---- a block that passed
 module _ (w cap : ℕ) (book : Book) (b : Block) (room : Bool) (none : search_refusal w (window_for cap (covered b)) book b room ≡ 0) where
@@ -22,6 +23,10 @@ module _ (w cap : ℕ) (book : Book) (b : Block) (room : Bool) (none : search_re
   accepted some =
       let s = searched w _ book b room none in
       record { book_passed = s.0; passed = passed w cap b some s.1.0 }
+
+  -- .. by the book's lists
+  pub accepted-listed : 0 < cap → Accepted (window_for cap (covered b)) (listed book) b
+  accepted-listed some = subst (λ (k : Book). Accepted (window_for cap (covered b)) k b) (by-lists book (searched w _ book b room none).0) (accepted some)
 
   -- .. by the book that was checked
   pub accepted-checked : {checked : Book} → checked ≡ book → 0 < cap → Accepted (window_for cap (covered b)) checked b

@@ -37,6 +37,7 @@ use Rattle.block_checks.specs.declared.Asked.{Asked}
 use Rattle.block_checks.specs.declared.RoomLengths.{RoomLengths}
 use Rattle.searches.specs.declared.Search.{Search}
 use Rattle.searches.specs.declared.Search.TheVariants.{Greedy, Beam, Trellis, Unfactored}
+use Rattle.prices.proofs.Passed.{listed, by-lists}
 
 -- ---- each way that a call ends is the defined outcome
 module _ (w : ℕ) (v : Window) (search : Search) (book : Book) (b : Block) (l : Lent) where
@@ -188,3 +189,7 @@ pub whole-promised : (w : ℕ) (search : Search) (book : Book) (b : Block) (l : 
 whole-promised w search book b l own =
     subst (λ (v : Window). PromisedIn w v search book b l (search_outcome w v search book b l)) (whole-window (covered b))
     (promised w (window_for 1024 (covered b)) book b (λ n. passed n 1024 b (lit≤ tt)) l own search refl)
+
+-- ---- what is promised of a book that passed, by its lists
+pub from-lists : {w : ℕ} {v : Window} {search : Search} (book : Book) {b : Block} {l : Lent} {r : Result} → book_refusal book ≡ 0 → PromisedIn w v search (listed book) b l r → PromisedIn w v search book b l r
+from-lists {w} {v} {search} book {b} {l} {r} ok P = subst⁻¹ (λ (k : Book). PromisedIn w v search k b l r) (by-lists book ok) P

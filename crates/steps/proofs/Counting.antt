@@ -26,3 +26,11 @@ unfolding nonzeros_among
 among_first scan levels size k h =
     let one : size - k ≡ suc (size - (k + 1)) = omega arith in
     rw (one, add-one)
+
+-- one position nearer to the front
+pub among-back : (scan : List ℕ) (levels : List ℤ) (size k count n : ℕ) → 0 < k → k ≤ size → count ≡ nonzeros_among scan levels k (size - k) → n ≡ nz (level_at scan levels (k - 1))
+    → count + n ≡ nonzeros_among scan levels (k - 1) (size - (k - 1))
+among-back scan levels size k count n some most e f =
+    let again : k - 1 + 1 ≡ k = omega arith in
+    let first = rw again at (among_first scan levels size (k - 1) (omega arith)) in
+    omega (arith, first)

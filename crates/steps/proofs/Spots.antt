@@ -16,8 +16,8 @@ use Rattle.least_cost.specs.Position.{nz}
 use Rattle.scan.specs.Scan.{level_at}
 use Rattle.weights.specs.Settings.{weight_at, scaled_weight}
 use Rattle.steps.specs.Place.{place_of, nonzero_rate}
-use Rattle.steps.specs.Plan.{Planned, Lists, Offered, Usable, listed}
-use Rattle.steps.specs.declared.plan.Plan.{Plan}
+use Rattle.steps.specs.Plan.{PlannedParts, Lists, Offered, Usable, listed}
+use Rattle.steps.specs.declared.plan.PlanParts.{PlanParts}
 
 -- the candidates as the leaf hands them over
 pub filled-usable : (x : Float) (q : ℤ) (restore : Bool) (c : Candidates) → T (is_ideal x) → T (is_current q) → c ≡ filled (filler q restore) (candidates_of x q restore) → Usable c
@@ -41,8 +41,8 @@ unfolding filled
 filled-listed x q restore c e = ap listed e ∙ whole (candidates_of x q restore) _
 
 -- what the code reads at a window position, by a plan and the lists
-pub offered : (b : Block) (p : Plan) (i : ℕ) (scan : List ℕ) (source inverse : List Float) (levels : List ℤ) (restoring : Bool) (x : Float) (q : ℤ) (c : Candidates)
-    → Lists b scan source inverse levels → Planned b p → restoring ≡ ltb i p.window.restoring
+pub offered : (b : Block) (p : PlanParts) (i : ℕ) (scan : List ℕ) (source inverse : List Float) (levels : List ℤ) (restoring : Bool) (x : Float) (q : ℤ) (c : Candidates)
+    → Lists b scan source inverse levels → PlannedParts b p → restoring ≡ ltb i p.window.restoring
     → x ≡ ideal_at scan source inverse p.scale (p.covered + i) → q ≡ level_at scan levels (p.covered + i) → c ≡ filled (filler q restoring) (candidates_of x q restoring)
     → Offered p.window b i (record { ideal = x; count = c.count; level = q }) c.levels
 unfolding ideal input_at candidates_at
@@ -57,8 +57,8 @@ offered b p i scan source inverse levels restoring x q c l w r ex eq ec =
     }
 
 -- what the code works out there
-pub placed : (b : Block) (p : Plan) (i : ℕ) (x weight rate : Float) (q : ℤ)
-    → Planned b p → x ≡ ideal b i → q ≡ input_at b (covered b + i) → weight ≡ scaled_weight p.channel_scale i p.base p.distance
+pub placed : (b : Block) (p : PlanParts) (i : ℕ) (x weight rate : Float) (q : ℤ)
+    → PlannedParts b p → x ≡ ideal b i → q ≡ input_at b (covered b + i) → weight ≡ scaled_weight p.channel_scale i p.base p.distance
     → rate ≡ cond (eqb (nz q) 0) p.restore_rate p.lambda
     → record { k = p.covered + i; covered = p.covered; log2 = p.log2; offset = p.offset; weight = weight; ideal = x; bias = p.bias; lambda = p.lambda; nonzero_rate = rate } ≡ place_of b p.log2 i
 unfolding place_of nonzero_rate weight_at

@@ -30,6 +30,8 @@ use Rattle.steps.specs.declared.tail.Stretch.{Stretch}
 use Rattle.steps.specs.declared.tail.Tail.{Tail}
 use Rattle.steps.proofs.Counting.{among_first, among-most}
 use Rattle.steps.proofs.Tails.{tokens-step}
+use Rattle.prices.specs.Checks.{ClusterPassed}
+use Rattle.prices.proofs.Passed.{Passed, priced-in}
 
 module _ (c : ℕ) (some : 0 < c) where
   quotient : (q x : ℕ) → q * c ≤ x → x < suc q * c → x / c ≡ q
@@ -114,6 +116,26 @@ both-clusters book p {n} {k} {s} co sh =
     let zero = mapped book (p.offset + zero_density_context p.covered n k 0) (omega (arith, few, p.coded.offset)) in
     let one = mapped book (p.offset + zero_density_context p.covered n k 1) (omega (arith, few, next-context p.covered n k, p.coded.offset)) in
     (rw (sh.zero_is n k sh.counted (le_refl n) (le_refl k) sh.here) at zero, rw (sh.one_is n k sh.counted (le_refl n) (le_refl k) sh.here) at one)
+
+-- one of two clusters that have prices has prices
+pub priced-by : (configs : List ℕ) (symbols ready : List Float) (zero one prev cluster : ℕ) → cluster ≡ cond (eqb prev 0) zero one
+    → ClusterPassed configs symbols ready zero → ClusterPassed configs symbols ready one → ClusterPassed configs symbols ready cluster
+priced-by configs symbols ready a b prev cluster e x y = subst⁻¹ (ClusterPassed configs symbols ready) e (go (eqb prev 0))
+  where
+    go : (t : Bool) → ClusterPassed configs symbols ready (cond t a b)
+    go true = x
+    go false = y
+
+-- both clusters of a stretch have prices where the book passed
+pub both-priced : {map configs : List ℕ} {symbols ready : List Float} {p : Plan} {n k : ℕ} {s : Stretch} → Passed (book_in map configs symbols ready) → Coefficient p.covered n k 0 → Shared p map k n s
+    → (ClusterPassed configs symbols ready s.zero) × (ClusterPassed configs symbols ready s.one)
+both-priced {map} {configs} {symbols} {ready} {p} {n} {k} {s} book co sh =
+    let few = pair-below (covered-some p.coded.covers) co in
+    let zero = book.sound.mapped (p.offset + zero_density_context p.covered n k 0) (omega (arith, few, p.coded.offset)) in
+    let one = book.sound.mapped (p.offset + zero_density_context p.covered n k 1) (omega (arith, few, next-context p.covered n k, p.coded.offset)) in (
+      priced-in book (rw (sh.zero_is n k sh.counted (le_refl n) (le_refl k) sh.here) at zero),
+      priced-in book (rw (sh.one_is n k sh.counted (le_refl n) (le_refl k) sh.here) at one),
+    )
 
 -- the next token is a coefficient's, where nonzero levels are left
 pub standing-coefficient : {scan : List ℕ} {levels : List ℤ} {t : Tail} {c : ℕ} → Standing scan levels t → length scan ≡ 64 * c → c ≤ t.k → (t.remaining ≡ 0 → ⊥) → Coefficient c t.remaining t.k 0

@@ -13,6 +13,7 @@ use Rattle.weights.specs.Window.{base_len}
 use Rattle.weights.specs.declared.Window.{Window}
 use Rattle.steps.specs.declared.reading.Offer.{Offer}
 use Rattle.steps.specs.declared.plan.Plan.{Plan}
+use Rattle.steps.specs.declared.plan.PlanParts.{PlanParts}
 
 -- p is what a block's shape, settings, bias and scale give; its window is a choice of its own
 pub record Planned (b : Block) (p : Plan) : Type 0 where
@@ -28,6 +29,40 @@ pub record Planned (b : Block) (p : Plan) : Type 0 where
   pub lambda_is : p.lambda ≡ b.settings.lambda
   pub restore_is : p.restore_rate ≡ restore_rate b.settings
   pub source_is : p.scale ≡ b.scale
+
+-- the same of parts by themselves
+pub record PlannedParts (b : Block) (p : PlanParts) : Type 0 where
+  pub covered_is : p.covered ≡ covered b
+  pub covers : Covered p.covered p.log2
+  pub base_is : p.base ≡ base_len (covered b)
+  pub offset_is : p.offset ≡ fine_zero_density_contexts_offset (context_of b)
+  pub count_is : p.count_context ≡ fine_non_zero_context b.shape.predicted (context_of b)
+  pub scale_is : p.channel_scale ≡ channel_scale b.settings b.shape.channel
+  pub distance_is : p.distance ≡ b.settings.distance
+  pub far_is : p.far_weight ≡ scaled_weight p.channel_scale p.base p.base p.distance
+  pub bias_is : p.bias ≡ b.bias
+  pub lambda_is : p.lambda ≡ b.settings.lambda
+  pub restore_is : p.restore_rate ≡ restore_rate b.settings
+  pub source_is : p.scale ≡ b.scale
+
+-- a plan's parts
+abbrev pub parts_of : Plan → PlanParts
+parts_of p =
+    record {
+      covered = p.covered;
+      log2 = p.log2;
+      window = p.window;
+      base = p.base;
+      offset = p.offset;
+      count_context = p.count_context;
+      channel_scale = p.channel_scale;
+      distance = p.distance;
+      far_weight = p.far_weight;
+      bias = p.bias;
+      lambda = p.lambda;
+      restore_rate = p.restore_rate;
+      scale = p.scale;
+    }
 
 -- these are the lists of a block
 pub record Lists (b : Block) (scan : List ℕ) (source inverse : List Float) (levels : List ℤ) : Type 0 where

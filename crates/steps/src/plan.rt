@@ -22,3 +22,21 @@ pub struct Plan {
     pub scale: f32,
     ghost coded: { Coded covered log2 offset count_context },
 }
+
+// The parts of a plan by themselves, whether their contexts exist or not: what a position offers, and what prices a level there, ask for no more.
+#[derive(Clone, Copy)]
+pub struct PlanParts {
+    pub covered: usize,
+    pub log2: u32,
+    pub window: Window,
+    pub base: usize,
+    pub offset: usize,
+    pub count_context: usize,
+    pub channel_scale: f32,
+    pub distance: f32,
+    pub far_weight: f32,
+    pub bias: DequantBias,
+    pub lambda: f32,
+    pub restore_rate: f32,
+    pub scale: f32,
+}

@@ -9,10 +9,10 @@ ghost use Rattle.scan.specs.Scan.{level_at};
 ghost use Rattle.weights.specs.Settings.{scaled_weight};
 ghost use Rattle.weights.specs.Window.{window_for};
 ghost use Rattle.steps.specs.Place.{distortion_at, place_of};
-ghost use Rattle.steps.specs.Plan.{Planned, Lists, Readable, Offered, Usable, Pickable, Each};
+ghost use Rattle.steps.specs.Plan.{Planned, PlannedParts, parts_of, Lists, Readable, Offered, Usable, Pickable, Each};
 
 use crate::Place;
-use crate::plan::Plan;
+use crate::plan::{Plan, PlanParts};
 use block::BlockData;
 
 // What a window position offers beside its candidates, which stand in a lent array, so that no search copies them: the ideal, how many candidates there are, and the level that is there.
@@ -76,6 +76,46 @@ impl Plan {
         ensures offered { (b : Block) → Lists b block.now.scan.now block.now.source.now block.now.inv_qm.now levels.now → Planned b self → Offered self.window b i result offered.new }
         ensures usable { (Usable (in_array result.count offered.new)) × (result.level ≡ level_at block.now.scan.now levels.now (self.covered + i)) }
     {
+        self.parts().offer(block, levels, i, offered)
+    }
+
+    // What prices a level at window position i.
+    pub fn place(self, i: usize, ideal: f32, level: i32) -> Place
+        requires { (self.base ≤ 1024) × ((self.covered + i < 65536) × T (is_current level)) }
+        ensures { (b : Block) → Planned b self → ideal ≡ idealOf b i → level ≡ input_at b (covered_by b + i) → result ≡ place_of b self.log2 i }
+    {
+        self.parts().place(i, ideal, level)
+    }
+
+    pub fn parts(self) -> PlanParts
+        ensures { result ≡ parts_of self }
+    {
+        PlanParts {
+            covered: self.covered,
+            log2: self.log2,
+            window: self.window,
+            base: self.base,
+            offset: self.offset,
+            count_context: self.count_context,
+            channel_scale: self.channel_scale,
+            distance: self.distance,
+            far_weight: self.far_weight,
+            bias: self.bias,
+            lambda: self.lambda,
+            restore_rate: self.restore_rate,
+            scale: self.scale,
+        }
+    }
+}
+
+impl PlanParts {
+    // What window position i offers. `Plan::offer` is this of a plan's parts.
+    pub fn offer(self, block: &BlockData, levels: &[i32], i: usize, offered: &mut [i32; 5]) -> Offer
+        requires readable { Readable block.now.scan.now block.now.source.now block.now.inv_qm.now levels.now self.scale (self.covered + i) }
+        requires i_bound { self.covered + i < 65536 }
+        ensures offered { (b : Block) → Lists b block.now.scan.now block.now.source.now block.now.inv_qm.now levels.now → PlannedParts b self → Offered self.window b i result offered.new }
+        ensures usable { (Usable (in_array result.count offered.new)) × (result.level ≡ level_at block.now.scan.now levels.now (self.covered + i)) }
+    {
         let k = self.covered + i;
         let ideal = crate::ideal_at(block, self.scale, k);
         let level = crate::level_at(block.scan, levels, k);
@@ -87,10 +127,10 @@ impl Plan {
         }
     }
 
-    // What prices a level at window position i.
+    // What prices a level at window position i. `Plan::place` is this of a plan's parts.
     pub fn place(self, i: usize, ideal: f32, level: i32) -> Place
         requires { (self.base ≤ 1024) × ((self.covered + i < 65536) × T (is_current level)) }
-        ensures { (b : Block) → Planned b self → ideal ≡ idealOf b i → level ≡ input_at b (covered_by b + i) → result ≡ place_of b self.log2 i }
+        ensures { (b : Block) → PlannedParts b self → ideal ≡ idealOf b i → level ≡ input_at b (covered_by b + i) → result ≡ place_of b self.log2 i }
     {
         let bias = self.bias;
         Place {

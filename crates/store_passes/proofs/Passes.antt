@@ -16,7 +16,8 @@ use Rattle.store_record.proofs.Placed.{three-placed}
 use Rattle.store_record.proofs.Headed.{headed-none, headed-past, headed-more}
 use Rattle.store_record.proofs.Runs.{runs_none, runs-next, runs-more, runs-length}
 use Rattle.store_record.proofs.Order.{others-most}
-use Rattle.store_passes.specs.Found.{Found}
+use Rattle.store_passes.specs.Found.{Found, Removed}
+use native.Mathlib.Nat.{le_antisymm}
 
 -- ---- find
 
@@ -38,6 +39,9 @@ whole : (r : List ℕ) (n : ℕ) → runs_from r 0 (n - 0) ≡ runs_from r 0 n
 whole r n =
     let e : n - 0 ≡ n = omega arith in
     rw e
+
+pub seek-start : (k : ℕ) (r : List ℕ) (n : ℕ) → Seeking k r n 0
+seek-start k r n = record { within = omega arith; held = ap (holds k) (whole r n); under = ap (run_under k) (whole r n) }
 
 module _ (k : ℕ) (r : List ℕ) (n i : ℕ) (s : Seeking k r n i) where
   pub seek-next : i < n → (get_or r (3 * i + 1) 0 ≡ k → ⊥) → Seeking k r n (i + 1)
@@ -67,6 +71,9 @@ pub record Adding (k : ℕ) (r : List ℕ) (n i sum : ℕ) : Type 0 where
   pub within : i ≤ n
   pub others' : sum + live (others k (runs_from r i (n - i))) ≡ live (others k (runs_from r 0 n))
   pub all : sum + live (runs_from r i (n - i)) ≤ live (runs_from r 0 n)
+
+pub add_start : (k : ℕ) (r : List ℕ) (n : ℕ) → Adding k r n 0 0
+add_start k r n = record { within = omega arith; others' = rw (whole r n) (omega arith); all = rw (whole r n) (omega arith) }
 
 module _ (k : ℕ) (r : List ℕ) (n i sum : ℕ) (s : Adding k r n i sum) (h : i < n) where
   pub add_small : sum + get_or r (3 * i + 3) 0 ≤ live (runs_from r 0 n)
@@ -171,6 +178,11 @@ module _ (k : ℕ) (r : List ℕ) (n i : ℕ) (rec : List ℕ) (kept : ℕ) (s :
                 ∙ headed-more (get_or r 0 0) (others k (runs_from r 0 i)) r front_fits (get_or r (3 * i + 1) 0) (get_or r (3 * i + 2) 0) (get_or r (3 * i + 3) 0)
                 ∙ ap (λ (l : List Run). headed (get_or r 0 0) l r) (sym more);
           }
+
+pub remove-end : (k : ℕ) (r : List ℕ) (n i : ℕ) (rec : List ℕ) (kept : ℕ) → Removing k r n i rec kept → n ≤ i → Removed k r n rec kept
+remove-end k r n i rec kept s h =
+    let e : i ≡ n = le_antisymm s.within h in
+    record { count = rw e at s.count; runs = rw e at s.runs }
 
 -- ---- write_run
 

@@ -142,3 +142,10 @@ pub whole : (r marks : List ℕ) (size n : ℕ) → passes 0 size marks (runs_fr
 whole r marks size n =
     let e : n - 0 ≡ n = omega arith in
     rw e
+
+-- a length that fits behind a start
+pub left_over : (length start size : ℕ) → start ≤ size → leb length (size - start) ≡ leb (start + length) size
+left_over length start size h =
+    same_test (leb length (size - start)) (leb (start + length) size)
+    (λ e. let k = leb-true length (size - start) e in le-leb (start + length) size (omega arith))
+    (λ e. let k = leb-true (start + length) size e in le-leb length (size - start) (omega arith))

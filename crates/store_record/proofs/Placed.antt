@@ -1,10 +1,11 @@
 -- Laws of numbers written over a part of a list. Assumes nothing.
-use Prim.Native.Nat.{ℕ, suc, ◌+◌, ◌-◌, ◌<◌, ◌≤◌}
-use mathlib.Core.Path.{◌≡◌, refl, sym, ap, ap₂, ◌∙◌}
-use mathlib.Core.List.{List, [], ◌∷◌, ◌++◌, append_assoc}
+use Prim.Native.Nat.{ℕ, zero, suc, ◌+◌, ◌-◌, ◌<◌, ◌≤◌}
+use mathlib.Core.Path.{◌≡◌, refl, sym, ap, ap₂, subst, ◌∙◌}
+use mathlib.Core.List.{List, [], ◌∷◌, ◌++◌, append_assoc, append-nil}
 use native.Mathlib.Omega.{arith}
-use lib.ListN.{length, get_or, take, drop, set, length-append, length-drop, take-append-drop}
-use lib.Seq.{length-take-le, take-append-le, drop-append-le, take_at, drop_at, drop-append-add, get_or-drop, set_at, drop-cons, drop-drop}
+use native.Mathlib.Numerals.{add-one}
+use lib.ListN.{length, get_or, take, drop, set, length-append, length-drop, take-append-drop, get_or-append}
+use lib.Seq.{length-take-le, take-append-le, drop-append-le, take_at, drop_at, drop-append-add, get_or-append-add, get_or-drop, set_at, drop-cons, drop-drop, take-take, take-suc, append_snoc}
 use Rattle.store_record.specs.Placed.{placed}
 
 pub placed-none : (at : ℕ) (zs : List ℕ) → placed at [] zs ≡ zs
@@ -102,6 +103,20 @@ module _ (at : ℕ) (ys zs : List ℕ) (fits : at + length ys ≤ length zs) whe
       ∙ take-append-le size (drop start (take at zs)) (ys ++ drop (at + length ys) zs) (omega arith)
       ∙ sym (take-append-le size (drop start (take at zs)) (drop at zs) (omega arith))
       ∙ ap (take size) (sym (drop-append-le start (take at zs) (drop at zs) (omega arith)) ∙ ap (drop start) (take-append-drop at zs))
+
+-- one token more of a run that is copied
+pub copied_more : (at start i : ℕ) (from zs : List ℕ) {to : List ℕ} → start + i < length from → at + i < length zs → to ≡ placed at (take i (drop start from)) zs
+    → set to (at + i) (get_or from (start + i) 0) ≡ placed at (take (i + 1) (drop start from)) zs
+copied_more at start i from zs {to} a b e =
+    let d : length (drop start from) ≡ length from - start = length-drop start from in
+    let l : length (take i (drop start from)) ≡ i = length-take-le i (drop start from) (omega arith) in
+    let s : set (placed at (take i (drop start from)) zs) (at + i) (get_or from (start + i) 0) ≡ placed at (take i (drop start from) ++ (get_or from (start + i) 0 ∷ [])) zs =
+    subst (λ (k : ℕ). set (placed at (take i (drop start from)) zs) (at + k) (get_or from (start + i) 0) ≡ placed at (take i (drop start from) ++ (get_or from (start + i) 0 ∷ [])) zs) l
+    (placed-set at (take i (drop start from)) zs (omega arith) (get_or from (start + i) 0) (omega arith)) in
+    let t : take (i + 1) (drop start from) ≡ take i (drop start from) ++ (get_or from (start + i) 0 ∷ []) =
+    ap (λ (k : ℕ). take k (drop start from)) (add-one i) ∙ take-suc (drop start from) i 0 (omega arith)
+    ∙ ap (λ (v : ℕ). take i (drop start from) ++ (v ∷ [])) (get_or-drop start from i 0) in
+    rw (e, t) s
 
 -- three numbers, one by one
 pub three-placed : (at a b d : ℕ) (zs : List ℕ) → at + 2 < length zs → set (set (set zs at a) (at + 1) b) (at + 2) d ≡ placed at (a ∷ b ∷ d ∷ []) zs

@@ -4,36 +4,27 @@ use mathlib.Core.Path.{◌≡◌, refl, sym, ap, ap₂, ◌∙◌}
 use mathlib.Core.Bool.{true}
 use mathlib.Core.List.{List, [], ◌∷◌, ◌++◌, append-nil, append_assoc}
 use native.Mathlib.Omega.{arith}
-use lib.ListN.{length, get_or, take, drop, length-append, length-drop}
+use lib.ListN.{length, get_or, take, drop, set, length-append, length-drop}
 use lib.Seq.{length-take-le}
-use lib.Seq.{paste}
-use borrow.Rule.Slice.PartMut.{put_mid}
-use Rattle.std.proofs.lemmas.List.Edits.{paste_all}
-use Rattle.std.proofs.lemmas.Slice.{put_mid-paste}
 use Rattle.store_record.specs.Placed.{placed}
 use Rattle.store_record.specs.Runs.{run, run_at, runs_from, headed, in_order, live, packed}
 use Rattle.store_record.specs.declared.Run.{Run}
 use Rattle.store_record.specs.Tokens.{tokens_of, joined}
-use Rattle.store_record.proofs.Placed.{placed-none, placed-rest, placed-length, placed-placed}
+use Rattle.store_record.proofs.Placed.{placed-none, placed_past, placed-rest, placed-length, placed-placed, copied_more}
 use Rattle.store_record.proofs.Runs.{runs-next, runs-more, runs-length}
 use Rattle.store_record.proofs.Headed.{headed-none, headed-length, headed-past, headed-more}
 use Rattle.store_record.proofs.Order.{order-head, order-lower, packed-length}
+use native.Mathlib.Nat.{le_antisymm}
+use Rattle.store_room.specs.Compacted.{Compacted}
 
--- a run copied whole
-pub run-pasted : (at start n : ℕ) (from to : List ℕ) → start + n ≤ length from → paste to at (drop start from) (start + n - start) ≡ placed at (take n (drop start from)) to
-unfolding placed
-run-pasted at start n from to h =
-    let same : start + n - start ≡ n = omega arith in
-    let long : length (take n (drop start from)) ≡ n = length-take-le n (drop start from) (omega (arith, length-drop start from)) in
-    rw (same, long) (append_assoc (take at to) (take n (drop start from)) (drop (at + n) to))
-
-pub run-put : (at start n : ℕ) (from to : List ℕ) {run : List ℕ} → start + n ≤ length from → run ≡ take (start + n - start) (drop start from) → put_mid at (at + n - at) to run ≡ placed at (take n (drop start from)) to
-unfolding placed
-run-put at start n from to {run} h e =
-    let same : start + n - start ≡ n = omega arith in
-    let long : length (take n (drop start from)) ≡ n = length-take-le n (drop start from) (omega (arith, length-drop start from)) in
-    put_mid-paste at (at + n - at) to run (take n (drop start from)) n (rw same at e) (omega arith) (sym long)
-    ∙ paste_all to at (take n (drop start from)) n (sym long) ∙ rw long
+-- one token more of a run that is moved down: it still stands where it stood
+pub moved_more : (at start i : ℕ) (zs : List ℕ) {to : List ℕ} → at ≤ start → start + i < length zs → to ≡ placed at (take i (drop start zs)) zs
+    → set to (at + i) (get_or to (start + i) 0) ≡ placed at (take (i + 1) (drop start zs)) zs
+moved_more at start i zs {to} a b e =
+    let d : length (drop start zs) ≡ length zs - start = length-drop start zs in
+    let l : length (take i (drop start zs)) ≡ i = length-take-le i (drop start zs) (omega arith) in
+    let same : get_or to (start + i) 0 ≡ get_or zs (start + i) 0 = rw e (placed_past at (take i (drop start zs)) zs (omega arith) (start + i) (omega arith)) in
+    rw same (copied_more at start i zs zs b (omega arith) e)
 
 -- ---- one run more
 
@@ -169,3 +160,8 @@ module _ (room₀ r : List ℕ) (n i : ℕ) (room rec : List ℕ) (top : ℕ) (s
               ∙ ap (λ (l : List Run). headed (get_or r 0 0) l r) (sym packed');
           later = order-lower (start + sz) (top + get_or rec (3 * i + 3) 0) (length room₀) (runs_from r (i + 1) (n - (i + 1))) (omega arith) head.1.1;
         }
+
+pub pack-end : (room₀ r : List ℕ) (n i : ℕ) (room rec : List ℕ) (top : ℕ) → Packing room₀ r n i room rec top → n ≤ i → Compacted room₀ r n room rec top
+pack-end room₀ r n i room rec top s h =
+    let e : i ≡ n = le_antisymm s.within h in
+    record { end = rw e at s.end; tokens = rw e at s.tokens; runs = rw e at s.runs }

@@ -8,20 +8,24 @@ ghost use Rattle.store_room.specs.Compacted.{Compacted};
 
 use store_record::Run;
 
-// Copies n tokens from `start` on to `at` on.
+// Copies n tokens from `start` on to `at` on. (By a loop, here and below: slices are copied by a call of memmove, which the C library does not ask for.)
 pub fn copy_run(from: &[u64], start: usize, n: usize, to: &mut [u64], at: usize)
     requires { (start + n ≤ length from.now) × (at + n ≤ length to.old) }
     ensures { to.new ≡ placed at (take n (drop start from.now)) to.old }
 {
-    to[at..at + n].copy_from_slice(&from[start..start + n]);
+    for i in 0..n {
+        to[at + i] = from[start + i];
+    }
 }
 
-// Moves n tokens from `start` down to `at`. The places may overlap.
+// Moves n tokens from `start` down to `at`: from the first on, since the places may overlap.
 fn move_down(room: &mut [u64], start: usize, n: usize, at: usize)
     requires { (at ≤ start) × (start + n ≤ length room.old) }
     ensures { room.new ≡ placed at (take n (drop start room.old)) room.old }
 {
-    room.copy_within(start..start + n, at);
+    for i in 0..n {
+        room[at + i] = room[start + i];
+    }
 }
 
 // Moves the first `count` runs together at the front of the room; where they end. (It reads the runs as `store_passes::remove` does, but moves room as well as record:

@@ -15,7 +15,7 @@ use Rattle.laws.specs.Refusals.{first_refused}
 use Rattle.laws.proofs.Refused.{in-turn, refused-first, all_pass, none-refused, passes-first}
 use Rattle.laws.proofs.Tests.{and_left, and_right}
 use Rattle.prices.specs.Checks.{each}
-use Rattle.prices.proofs.Each.{each_below}
+use Rattle.prices.proofs.Each.{each_below, each-fails}
 use Rattle.tallying.specs.Uses.{Tokens}
 use Rattle.tallying.specs.Tally.{Tally, many, are_tokens, shared_checks, tally_checks}
 use Rattle.tallying.specs.Checked.{tokens_in}
@@ -50,6 +50,15 @@ module _ (t : Tokens) where
   pub other-lengths : (length t.values ≡ many t → ⊥) → false ≡ are_tokens t
   unfolding are_tokens
   other-lengths n = rw (ne_eqb (length t.values) (many t) n)
+
+  module _ (e : length t.values ≡ many t) where
+    pub no-token : (i : ℕ) → i < many t → is_token i ≡ false → false ≡ are_tokens t
+    unfolding are_tokens
+    no-token i h f = rw (eq-eqb (length t.values) (many t) e, each-fails is_token (many t) i h f)
+
+    pub all-tokens : each (many t) is_token ≡ true → true ≡ are_tokens t
+    unfolding are_tokens
+    all-tokens f = rw (eq-eqb (length t.values) (many t) e, f)
 
   pub both-lists : length t.values ≡ many t → (each (length t.contexts) (λ i. leb (get_or t.contexts i 0) 14849) && each (length t.values) (λ i. leb (get_or t.values i 0) 131071)) ≡ are_tokens t
   unfolding are_tokens

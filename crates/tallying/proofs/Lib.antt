@@ -3,6 +3,7 @@ pub mod Checks
 pub mod Uses
 mod Steps
 mod Ends
+mod Pieces
 pub mod Changes
 pub mod Entries
 pub mod Undone

@@ -14,7 +14,7 @@ use Rattle.tallying.specs.Uses.{Tokens, cluster_at, place_at, extra_at, used_at,
 use Rattle.tallying.specs.Tally.{listed, tally_of, many}
 use Rattle.tallying.specs.Counting.{has_room, to_add, rest_to_add, to_remove}
 use Rattle.tallying.proofs.Checks.{Countable}
-use Rattle.tallying.proofs.Lists.{listed_is, listed_at, listed-set}
+use Rattle.tallying.proofs.Lists.{listed_is, listed_at, listed-set, listed-length}
 use Rattle.tallying.proofs.Uses.{used-here, used-else, extra-next}
 
 module _ (map configs : List ℕ) (t : Tokens) (counts : List ℕ) where
@@ -97,6 +97,9 @@ module _ (op : ℕ → ℕ → ℕ) (room : ℕ → ℕ) (rest : ℕ) (map confi
       record { few = zero-le; counts_are = counted_none map configs t counts op same; total-is = sym (same extra); fitted = λ j h. absurd (not-suc-le-zero h) }
 
   module _ {held : List ℕ} {total i : ℕ} (G : Going op room rest map configs t n counts extra held total i) where
+    pub going-length : length held ≡ length counts
+    going-length = ap length G.counts_are ∙ listed-length (λ s. op (get_or counts s 0) (used_at map configs t i s)) 0 (length counts)
+
     pub going-at : (p : ℕ) → p < length counts → get_or held p 0 ≡ op (get_or counts p 0) (used_at map configs t i p)
     going-at p h = ap (λ (l : List ℕ). get_or l p 0) G.counts_are ∙ counted-at map configs t counts op i p h
 

@@ -109,11 +109,33 @@ fn none_above(most: u32, list: &[u32]) -> bool
     top <= most
 }
 
+// The same of a piece of both lists.
+fn pass(contexts: &[u32], values: &[u32]) -> bool
+    requires { length values.now ≡ length contexts.now }
+    ensures { result ≡ are_tokens (tokens_of contexts.now values.now) }
+{
+    none_above(14849, contexts) && none_above(131071, values)
+}
+
+// So many tokens are compared before one that fails ends it.
+const PIECE: usize = 64;
+
 // 17: two lists of one length, contexts below 14,850, values up to 131,071.
 fn are_tokens(contexts: &[u32], values: &[u32]) -> bool
     ensures { result ≡ are_tokens (tokens_of contexts.now values.now) }
 {
-    values.len() == contexts.len() && none_above(14849, contexts) && none_above(131071, values)
+    let n = contexts.len();
+    if values.len() != n {
+        return false;
+    }
+    for piece in 0..n / PIECE + 1 {
+        let start = piece * PIECE;
+        let end = n.min(start + PIECE);
+        if !pass(&contexts[start..end], &values[start..end]) {
+            return false;
+        }
+    }
+    true
 }
 
 // Checks 1 to 4 and 17: code and tokens, once they have passed. `places`: how many counts were lent.

@@ -8,6 +8,7 @@ use borrow.Author.Tests.{leb-true, le-leb, lt-ltb}
 use lib.Dec.{eqb, leb}
 use lib.IntN.{ℤ, pos, negsuc, nat_abs}
 use lib.ListN.{length, get_or}
+use Rattle.block.specs.Block.{nonzeros_among}
 use Rattle.block.specs.declared.Shape.{Shape}
 use Rattle.coding.specs.Coding as Coding
 use Rattle.laws.specs.Refusals.{first_refused}
@@ -24,8 +25,8 @@ use Rattle.block_tokens.specs.Code.{Code, code_of, symbol_in}
 use Rattle.block_tokens.specs.Writing.{all_within, all_coded}
 use Rattle.block_tokens.specs.Passed.{Scanned}
 use Rattle.block_tokens.proofs.Passed.{codes-valid}
-use Rattle.token_steps.specs.Steps.{levels_in, count_token, SplitIn}
-use Rattle.token_steps.specs.declared.coded.Coded.{Coded}
+use Rattle.token_steps.specs.Steps.{Numbered, SplitIn}
+use Rattle.token_steps.specs.declared.layout.LayoutNumbers.{LayoutNumbers}
 use Rattle.token_steps.proofs.Walk.{at-start, count-coded, count-fails}
 use Rattle.token_bounds.specs.Bounds.{levels_refusal}
 
@@ -100,21 +101,20 @@ module _ (x : Code) (h : Shape) (scan : List ℕ) (levels : List ℤ) where
     none e = rw (within, e)
 
 -- where all levels are small the count alone decides
-module _ {map configs : List ℕ} (k : Coding.Coded map configs) (d : Coded) (all : each (length d.levels.now) (λ i. leb (nat_abs (get_or d.levels.now i (pos 0))) 63) ≡ true)
-    (r : Split) (split : SplitIn (code_of map configs) (count_token d) r) where
-  abbrev h : Shape
-  h = d.layout.shape
+module _ {map configs : List ℕ} (k : Coding.Coded map configs) {h : Shape} {p : LayoutNumbers} (laid : Numbered h p) {scan : List ℕ} {levels : List ℤ} (scanned : Scanned h scan levels)
+    (all : each (length levels) (λ i. leb (nat_abs (get_or levels i (pos 0))) 63) ≡ true)
+    {count : ℕ} (counted : count ≡ nonzeros_among scan levels p.covered (length scan - p.covered))
+    (r : Split) (split : SplitIn (code_of map configs) (record { context = p.count_context; value = count }) r) where
+  within : all_within (coded_levels h scan levels) ≡ true
+  within = small-within _ (coded-small h scan levels scanned all)
 
-  within : all_within (levels_in d) ≡ true
-  within = small-within _ (coded-small h d.scan.now d.levels.now d.scanned all)
+  pub small-refused : 127 < r.symbol → 20 ≡ levels_refusal (code_of map configs) h (coded_levels h scan levels)
+  small-refused high = at20 _ h scan levels within (count-fails laid scanned counted _ r split high)
 
-  pub small-refused : 127 < r.symbol → 20 ≡ levels_refusal (code_of map configs) h (levels_in d)
-  small-refused high = at20 _ h d.scan.now d.levels.now within (count-fails d _ r split high)
-
-  pub small-passes : r.symbol ≤ 127 → 0 ≡ levels_refusal (code_of map configs) h (levels_in d)
+  pub small-passes : r.symbol ≤ 127 → 0 ≡ levels_refusal (code_of map configs) h (coded_levels h scan levels)
   small-passes low =
-      let a = at-start d _ refl in
-      none _ h d.scan.now d.levels.now within
-      (count-coded d _ r split low
+      let a = at-start laid scanned counted _ refl in
+      none _ h scan levels within
+      (count-coded laid scanned counted _ r split low
       ∙ ap (all_coded (code_of map configs)) a.tokens
-      ∙ small-coded k h _ _ _ (from-small h d.scan.now d.levels.now d.scanned all d.layout.covered (64 * covered_by h - d.layout.covered) (omega (arith, a.to))))
+      ∙ small-coded k h _ _ _ (from-small h scan levels scanned all p.covered (64 * covered_by h - p.covered) (omega (arith, a.to))))

@@ -41,7 +41,7 @@ drop-none (a ∷ xs) [] (suc i) l = refl
 drop-none (a ∷ xs) (b ∷ ys) (suc i) l = drop-none xs ys i (omega arith)
 
 -- whether a value stands for a nonzero level
-nz-value : (v : ℕ) → (v ≡ 0 → ⊥) → nz (unpack_signed v) ≡ 1
+pub nz-value : (v : ℕ) → (v ≡ 0 → ⊥) → nz (unpack_signed v) ≡ 1
 unfolding nz pack_signed
 nz-value v ne = go (unpack_signed v) (pack-unpack v)
   where
@@ -49,6 +49,14 @@ nz-value v ne = go (unpack_signed v) (pack-unpack v)
     go (pos zero) e = absurd (ne (sym e))
     go (pos (suc n)) e = refl
     go (negsuc n) e = refl
+
+pub zero-level : unpack_signed 0 ≡ pos 0
+unfolding unpack_signed
+zero-level = refl
+
+pub nz-zero : nz (unpack_signed 0) ≡ 0
+unfolding nz unpack_signed
+nz-zero = refl
 
 pub nonzero-byte : (v : ℕ) → bool_byte (not (eqb v 0)) ≡ nz (unpack_signed v)
 unfolding nz unpack_signed

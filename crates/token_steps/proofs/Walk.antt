@@ -1,6 +1,6 @@
 -- The walk over a block's tokens, as the loops make it: at scan position k, with `left` nonzero levels from there on. Assumes nothing.
 use Prim.Native.Nat.{ℕ, zero, suc, ◌+◌, ◌-◌, ◌*◌, ◌/◌, ◌≤◌, ◌<◌, suc-le-suc}
-use mathlib.Core.Path.{◌≡◌, refl, sym, ap, ◌∙◌}
+use mathlib.Core.Path.{◌≡◌, refl, sym, ap, ap₂, ◌∙◌}
 use mathlib.Core.Bool.{Bool, true, false, cond}
 use mathlib.Core.List.{List, [], ◌∷◌}
 use native.Mathlib.Omega.{arith}
@@ -11,7 +11,7 @@ use lib.Dec.{leb}
 use lib.IntN.{ℤ, nat_abs}
 use lib.ListN.{length, drop, length-drop}
 use lib.Seq.{drop-drop}
-use Rattle.ac_context.specs.Contexts.{Coefficient}
+use Rattle.ac_context.specs.Contexts.{Coefficient, zero_density_context}
 use Rattle.block.specs.declared.Shape.{Shape}
 use Rattle.block.specs.Block.{nonzeros_among}
 use Rattle.least_cost.specs.Position.{nz}
@@ -22,7 +22,10 @@ use Rattle.scan.specs.Scan.{level_at}
 use Rattle.block_tokens.specs.Tokens.{Token, covered_by, count_context, level_context, prev_by, nonzeros_of, level_tokens, block_tokens, levels_from, coded_levels}
 use Rattle.block_tokens.specs.Code.{Code, symbol_in}
 use Rattle.block_tokens.specs.Writing.{all_within, all_coded}
-use Rattle.token_steps.specs.Steps.{tokens_in, count_token, SplitIn}
+use Rattle.block_tokens.specs.Passed.{Scanned}
+use Rattle.token_steps.specs.Layout.{LaidOut}
+use Rattle.token_steps.specs.Steps.{Numbered, HasToken, tokens_in, count_token, level_token, placed_token, SplitIn}
+use Rattle.token_steps.specs.declared.layout.LayoutNumbers.{LayoutNumbers}
 use Rattle.token_steps.specs.declared.coded.Coded.{Coded}
 use Rattle.steps.proofs.Counting.{among-most}
 use Rattle.block_tokens.proofs.Counts.{nz-most, nonzeros-most}
@@ -178,9 +181,9 @@ unfolding all_coded
 coded-more x {ts} {rest} {t} e low = rw e (simp (lt-ltb (symbol_in x t) 128 low))
 
 -- what the first pass knows at scan position k: all tokens in front have symbols
-pub record Counting (x : Code) (d : Coded) (k prev left : ℕ) : Type 0 where
-  pub at : At d.layout.shape d.scan.now d.levels.now k prev left
-  pub coded : all_coded x (tokens_in d) ≡ all_coded x (drop (before d.layout.shape d.scan.now d.levels.now k) (tokens_in d))
+pub record Counting (x : Code) (h : Shape) (scan : List ℕ) (levels : List ℤ) (k prev left : ℕ) : Type 0 where
+  pub at : At h scan levels k prev left
+  pub coded : all_coded x (all_tokens h scan levels) ≡ all_coded x (drop (before h scan levels k) (all_tokens h scan levels))
 
 pub coded-next : (x : Code) (all : List Token) {ts rest : List Token} {t : Token} → all_coded x all ≡ all_coded x ts → ts ≡ t ∷ rest → symbol_in x t < 128 → all_coded x all ≡ all_coded x rest
 coded-next x all a e low = a ∙ coded-more x e low
@@ -189,39 +192,74 @@ pub coded-fails : (x : Code) (all : List Token) {ts rest : List Token} {t : Toke
 unfolding all_coded
 coded-fails x all {ts} {rest} {t} a e high = a ∙ rw e (simp (le-ltb (symbol_in x t) 128 high))
 
+-- where nothing is left all tokens were met
+pub counted-all : (x : Code) (h : Shape) (scan : List ℕ) (levels : List ℤ) (k prev left : ℕ) → Counting x h scan levels k prev left → left ≤ 0
+    → all_coded x (all_tokens h scan levels) ≡ true
+unfolding all_coded
+counted-all x h scan levels k prev left c none = c.coded ∙ ap (all_coded x) (nothing_left h scan levels k prev left c.at none)
+
 -- ---- by what the code holds
 
+module _ {h : Shape} {c log2 offset counts : ℕ} (laid : LaidOut h c log2 offset counts) {scan : List ℕ} {levels : List ℤ} (scanned : Scanned h scan levels) where
+  pub size : length scan ≡ 64 * c
+  size = omega (arith, laid.covered_is, scanned.order.size)
+
+  module _ {count : ℕ} (counted : count ≡ nonzeros_among scan levels c (length scan - c)) where
+    pub count_most : count ≤ 65536
+    count_most = omega (arith, counted, among-most scan levels c (length scan - c), size, laid.most)
+
+    -- the first scan position
+    pub at-start : (prev : ℕ) → prev ≡ cond (leb count (64 * c / 16)) 1 0 → At h scan levels c prev count
+    unfolding prev_by
+    at-start prev e =
+        rw laid.covered_is (at_first h scan levels count prev (rw (scanned.order.size, laid.covered_is) at counted) (rw laid.covered_is at e))
+
+    pub count-first : all_tokens h scan levels ≡ record { context = counts; value = count } ∷ drop (before h scan levels c) (all_tokens h scan levels)
+    count-first =
+        rw (laid.covered_is, laid.count_is)
+        (first-token h scan levels count (coded-count h scan levels c (length scan) count laid.covered_is scanned.order.size counted))
+
+    module _ (x : Code) (r : Split) (split : SplitIn x (record { context = counts; value = count }) r) where
+      pub count-coded : r.symbol ≤ 127 → all_coded x (all_tokens h scan levels) ≡ all_coded x (drop (before h scan levels c) (all_tokens h scan levels))
+      count-coded low = coded-next x (all_tokens h scan levels) refl count-first (rw split.symbol_is at (suc-le-suc low))
+
+      pub count-fails : 127 < r.symbol → all_coded x (all_tokens h scan levels) ≡ false
+      count-fails high = coded-fails x (all_tokens h scan levels) refl count-first (rw split.symbol_is at high)
+
+-- the step of scan position k can be made
+pub has-token : {h : Shape} {p : LayoutNumbers} → Numbered h p → (scan : List ℕ) (levels : List ℤ) → Scanned h scan levels → (k left prev : ℕ)
+    → Coefficient (covered_by h) left k prev → nat_abs (level_at scan levels k) ≤ 32768 → HasToken p scan levels k left prev
+has-token {h} {p} laid scan levels scanned k left prev coefficient small =
+    let below : k < 64 * covered_by h = omega (arith, coefficient.some, coefficient.left) in
+    record {
+      covers = laid.covers;
+      offset_most = laid.offset_most;
+      coefficient = rw laid.covered_is coefficient;
+      scanned = rw scanned.order.size below;
+      within = rw scanned.long (scanned.order.bound k below);
+      small = small;
+    }
+
+-- its context, by the shape
+pub context-by : {h : Shape} (p : LayoutNumbers) → Numbered h p → (left k prev : ℕ) → p.offset + zero_density_context p.covered left k prev ≡ level_context h left k prev
+unfolding level_context
+context-by p laid left k prev = ap₂ (λ (o c : ℕ). o + zero_density_context c left k prev) laid.offset_is laid.covered_is
+
+-- its token, by the shape
+pub token-by : {h : Shape} (p : LayoutNumbers) → Numbered h p → (scan : List ℕ) (levels : List ℤ) (k left prev : ℕ) → placed_token p scan levels k left prev ≡ level_token h scan levels k left prev
+token-by p laid scan levels k left prev = ap (λ (n : ℕ). record { context = n; value = pack_signed (level_at scan levels k) }) (context-by p laid left k prev)
+
+-- ---- by a block's levels
+
 module _ (d : Coded) where
-  pub size : length d.scan.now ≡ 64 * d.layout.covered
-  size = omega (arith, d.layout.laid.covered_is, d.scanned.order.size)
+  pub most-in : d.count ≤ 65536
+  most-in = count_most d.layout.laid d.scanned d.counted
 
-  pub count_most : d.count ≤ 65536
-  count_most = omega (arith, d.counted, among-most d.scan.now d.levels.now d.layout.covered (length d.scan.now - d.layout.covered), size, d.layout.laid.most)
+  pub start-in : (prev : ℕ) → prev ≡ cond (leb d.count (64 * d.layout.covered / 16)) 1 0 → At d.layout.shape d.scan.now d.levels.now d.layout.covered prev d.count
+  start-in = at-start d.layout.laid d.scanned d.counted
 
-  -- the first scan position
-  pub at-start : (prev : ℕ) → prev ≡ cond (leb d.count (64 * d.layout.covered / 16)) 1 0 → At d.layout.shape d.scan.now d.levels.now d.layout.covered prev d.count
-  unfolding prev_by
-  at-start prev e =
-      let laid = d.layout.laid in
-      rw laid.covered_is (at_first d.layout.shape d.scan.now d.levels.now d.count prev (rw (d.scanned.order.size, laid.covered_is) at d.counted) (rw laid.covered_is at e))
-
-  pub count-first : tokens_in d ≡ count_token d ∷ drop (before d.layout.shape d.scan.now d.levels.now d.layout.covered) (tokens_in d)
-  count-first =
-      let laid = d.layout.laid in
-      rw laid.covered_is
-      (first-token d.layout.shape d.scan.now d.levels.now d.count (coded-count d.layout.shape d.scan.now d.levels.now d.layout.covered (length d.scan.now) d.count laid.covered_is d.scanned.order.size d.counted))
-
-  module _ (x : Code) (r : Split) (split : SplitIn x (count_token d) r) where
-    pub count-coded : r.symbol ≤ 127 → all_coded x (tokens_in d) ≡ all_coded x (drop (before d.layout.shape d.scan.now d.levels.now d.layout.covered) (tokens_in d))
-    count-coded low = coded-next x (tokens_in d) refl count-first (rw split.symbol_is at (suc-le-suc low))
-
-    pub count-fails : 127 < r.symbol → all_coded x (tokens_in d) ≡ false
-    count-fails high = coded-fails x (tokens_in d) refl count-first (rw split.symbol_is at high)
-
--- where nothing is left all tokens were met
-pub counted-all : (x : Code) (d : Coded) (k prev left : ℕ) → Counting x d k prev left → left ≤ 0 → all_coded x (tokens_in d) ≡ true
-unfolding all_coded
-counted-all x d k prev left c none = c.coded ∙ ap (all_coded x) (nothing_left d.layout.shape d.scan.now d.levels.now k prev left c.at none)
+  pub first-in : tokens_in d ≡ count_token d ∷ drop (before d.layout.shape d.scan.now d.levels.now d.layout.covered) (tokens_in d)
+  first-in = rw d.layout.laid.count_is at (count-first d.layout.laid d.scanned d.counted)
 
 -- ---- how many tokens there are
 
@@ -231,4 +269,10 @@ pub record Reached (d : Coded) (k left : ℕ) : Type 0 where
   pub at : At d.layout.shape d.scan.now d.levels.now k prev left
 
 pub reached-first : (d : Coded) → Reached d d.layout.covered d.count
-reached-first d = record { prev = _; at = at-start d _ refl }
+reached-first d = record { prev = _; at = start-in d _ refl }
+
+-- ---- shapes of one layout have the same levels
+
+pub same_coded : {h h' : Shape} {covered log2 offset counts : ℕ} → LaidOut h covered log2 offset counts → LaidOut h' covered log2 offset counts → (scan : List ℕ) (levels : List ℤ) → coded_levels h scan levels ≡ coded_levels h' scan levels
+unfolding coded_levels
+same_coded a b scan levels = ap (λ (c : ℕ). levels_from scan levels c (63 * c)) (sym a.covered_is ∙ b.covered_is)

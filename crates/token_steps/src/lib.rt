@@ -4,19 +4,20 @@
 pub mod coded;
 pub mod layout;
 
-ghost use Rattle.std.specs.Prelude.{◌≡◌, true, ◌<◌, ◌≤◌, nat_abs, SomeIff};
-ghost use Rattle.ac_context.specs.Contexts.{Coefficient};
+ghost use Rattle.std.specs.Prelude.{◌≡◌, true, ◌+◌, ◌<◌, ◌≤◌, nat_abs, SomeIff};
+ghost use Rattle.ac_context.specs.Contexts.{Covered, Coefficient, zero_density_context};
+ghost use Rattle.coding.specs.Coding.{Coded as IsCoded};
 ghost use Rattle.scan.specs.Scan.{level_at};
 ghost use Rattle.block_tokens.specs.Tokens.{covered_by, level_context};
-ghost use Rattle.block_tokens.specs.Code.{contents};
+ghost use Rattle.block_tokens.specs.Code.{code_of, contents};
 ghost use Rattle.block_tokens.specs.Passed.{Shaped};
 ghost use Rattle.block_tokens.specs.Reading.{pair, splits_in, value_in};
-ghost use Rattle.token_steps.specs.Steps.{count_token, level_token, ConfigAt, SplitIn, StepAt};
+ghost use Rattle.token_steps.specs.Steps.{count_token, level_token, placed_token, HasToken, ConfigAt, SplitIn, StepAt};
 
 use block::Shape;
 use coded::Coded;
 use coding::code::Code;
-use layout::Layout;
+use layout::{Layout, LayoutNumbers};
 use packing::{HybridUintConfig, Split};
 
 pub fn layout_of(shape: Shape) -> Layout
@@ -40,27 +41,46 @@ pub fn layout_of(shape: Shape) -> Layout
 }
 
 // The context of the level at scan position k, where `left` nonzero levels stand from k on.
-pub fn context_at(layout: Layout, left: usize, k: usize, prev: usize) -> usize
-    requires { Coefficient (covered_by layout.shape) left k prev }
-    ensures { (result ≡ level_context layout.shape left k prev) × (result < 14850) }
+fn context_in(layout: LayoutNumbers, left: usize, k: usize, prev: usize) -> usize
+    requires covers { (Covered layout.covered layout.log2) × (layout.offset + 457 < 14850) }
+    requires coefficient { Coefficient layout.covered left k prev }
+    ensures { (result ≡ layout.offset + zero_density_context layout.covered left k prev) × (result < 14850) }
 {
     layout.offset + ac_context::zero_density_context(left, k, layout.covered, layout.log2, prev)
 }
 
-// The configuration of a context's cluster.
-fn config_at(code: &Code, context: usize) -> HybridUintConfig
-    requires { context < 14850 }
-    ensures { ConfigAt (contents code.now) context result }
+// The same by what the shape has.
+pub fn context_at(layout: Layout, left: usize, k: usize, prev: usize) -> usize
+    requires { Coefficient (covered_by layout.shape) left k prev }
+    ensures { (result ≡ level_context layout.shape left k prev) × (result < 14850) }
 {
-    prices::config_of(code.configs, usize::from(code.map[context]))
+    context_in(layout.numbers(), left, k, prev)
+}
+
+// The configuration of a context's cluster.
+fn config_at(map: &[u8], configs: &[u8], context: usize) -> HybridUintConfig
+    requires coded { IsCoded map.now configs.now }
+    requires context_bound { context < 14850 }
+    ensures { ConfigAt (code_of map.now configs.now) context result }
+{
+    prices::config_of(configs, usize::from(map[context]))
 }
 
 // The split of a value under the configuration of a context's cluster.
+pub fn split_under(map: &[u8], configs: &[u8], context: usize, value: u32) -> Split
+    requires coded { IsCoded map.now configs.now }
+    requires context_bound { (context < 14850) × (value ≤ 131071) }
+    ensures { SplitIn (code_of map.now configs.now) (record { context = context; value = value }) result }
+{
+    packing::uint_encode_with_config(value, config_at(map, configs, context))
+}
+
+// The same under a checked code.
 pub fn split_in(code: &Code, context: usize, value: u32) -> Split
     requires context_bound { (context < 14850) × (value ≤ 131071) }
     ensures { SplitIn (contents code.now) (record { context = context; value = value }) result }
 {
-    packing::uint_encode_with_config(value, config_at(code, context))
+    split_under(code.map, code.configs, context, value)
 }
 
 // The value of a symbol and its extra bits under the configuration of a context's cluster; `None` where they split none.
@@ -68,7 +88,7 @@ pub fn value_in(code: &Code, context: usize, symbol: u32, bits: u32) -> Option<u
     requires context_bound { context < 14850 }
     ensures { let x = contents code.now in let p = pair symbol bits in SomeIff result (splits_in x context p ≡ true) (value_in x context p) }
 {
-    packing::uint_decode_with_config(symbol, bits, config_at(code, context))
+    packing::uint_decode_with_config(symbol, bits, config_at(code.map, code.configs, context))
 }
 
 // The same where they are the split of a value.
@@ -77,7 +97,7 @@ pub fn read_in(code: &Code, context: usize, symbol: u32, bits: u32) -> u32
     requires bits_value { splits_in (contents code.now) context (pair symbol bits) ≡ true }
     ensures { result ≡ value_in (contents code.now) context (pair symbol bits) }
 {
-    packing::uint_read_with_config(symbol, bits, config_at(code, context))
+    packing::uint_read_with_config(symbol, bits, config_at(code.map, code.configs, context))
 }
 
 // The split of the count, which is the first token's value.
@@ -97,14 +117,25 @@ pub struct Step {
     pub nonzero: usize,
 }
 
-pub fn step_at(code: &Code, coded: &Coded, k: usize, left: usize, prev: usize) -> Step
-    requires coefficient { Coefficient (covered_by coded.now.layout.shape) left k prev }
-    requires small { nat_abs (level_at coded.now.scan.now coded.now.levels.now k) ≤ 32768 }
-    ensures { StepAt (contents code.now) (level_token coded.now.layout.shape coded.now.scan.now coded.now.levels.now k left prev) (level_at coded.now.scan.now coded.now.levels.now k) result }
+// The step of scan position k, where `left` nonzero levels stand from k on. Inlined, since a call with all these arguments would cost the writer's walks more.
+#[inline(always)]
+pub fn token_at(
+    map: &[u8],
+    configs: &[u8],
+    layout: LayoutNumbers,
+    scan: &[u32],
+    levels: &[i32],
+    k: usize,
+    left: usize,
+    prev: usize,
+) -> Step
+    requires coded { IsCoded map.now configs.now }
+    requires has_token { HasToken layout scan.now levels.now k left prev }
+    ensures { StepAt (code_of map.now configs.now) (placed_token layout scan.now levels.now k left prev) (level_at scan.now levels.now k) result }
 {
-    let level = steps::level_at(coded.scan, coded.levels, k);
-    let context = context_at(coded.layout, left, k, prev);
-    let split = split_in(code, context, packing::pack_signed(level));
+    let level = steps::level_at(scan, levels, k);
+    let context = context_in(layout, left, k, prev);
+    let split = split_under(map, configs, context, packing::pack_signed(level));
     Step {
         context,
         symbol: split.symbol,
@@ -112,4 +143,22 @@ pub fn step_at(code: &Code, coded: &Coded, k: usize, left: usize, prev: usize) -
         bits: split.bits,
         nonzero: steps::nonzero(level),
     }
+}
+
+// The same of a block's levels.
+pub fn step_at(code: &Code, coded: &Coded, k: usize, left: usize, prev: usize) -> Step
+    requires coefficient { Coefficient (covered_by coded.now.layout.shape) left k prev }
+    requires small { nat_abs (level_at coded.now.scan.now coded.now.levels.now k) ≤ 32768 }
+    ensures { StepAt (contents code.now) (level_token coded.now.layout.shape coded.now.scan.now coded.now.levels.now k left prev) (level_at coded.now.scan.now coded.now.levels.now k) result }
+{
+    token_at(
+        code.map,
+        code.configs,
+        coded.layout.numbers(),
+        coded.scan,
+        coded.levels,
+        k,
+        left,
+        prev,
+    )
 }

@@ -17,7 +17,7 @@ use Rattle.block_tokens.specs.Writing.{over, outputs, written}
 use Rattle.token_steps.specs.Steps.{tokens_in, count_token, level_token, SplitIn, StepAt}
 use Rattle.token_steps.specs.declared.Step.{Step}
 use Rattle.token_steps.specs.declared.coded.Coded.{Coded}
-use Rattle.token_steps.proofs.Walk.{before, At, Next, next, at_last, at-start, count-first}
+use Rattle.token_steps.proofs.Walk.{before, At, Next, next, at_last, start-in, first-in}
 
 -- what an output holds when its first i numbers are written
 
@@ -109,7 +109,7 @@ pub record Writing (x : Code) (d : Coded) (contexts₀ symbols₀ extra₀ bits�
 -- with the count's token written
 module _ (d : Coded) where
   pub some-token : 1 ≤ length (tokens_in d)
-  some-token = omega (arith, ap length (count-first d))
+  some-token = omega (arith, ap length (first-in d))
 
   pub begun : (x : Code) {contexts symbols extra bits : List ℕ} (prev : ℕ) {r : Split} → SplitIn x (count_token d) r → RoomFor (length (tokens_in d)) contexts symbols extra bits
       → prev ≡ cond (leb d.count (64 * d.layout.covered / 16)) 1 0
@@ -117,13 +117,13 @@ module _ (d : Coded) where
       Writing x d contexts₁ symbols₁ extra₁ bits₁ contexts₁ symbols₁ extra₁ bits₁ 1 d.layout.covered prev d.count)
   begun x {contexts} {symbols} {extra} {bits} prev split room e =
       record {
-        at = at-start d prev e;
+        at = start-in d prev e;
         index = omega (arith, d.layout.laid.covered_is);
         filled = record {
-          contexts-are = first (λ t. t.context) _ contexts _ (count-first d) d.layout.laid.count_is room.contexts_long;
-          symbols-are = first (symbol_in x) _ symbols _ (count-first d) split.symbol_is room.symbols_long;
-          extra-are = first (extra_in x) _ extra _ (count-first d) split.extra_is room.extra_long;
-          bits_are = first (bits_in x) _ bits _ (count-first d) split.bits_are room.bits_long;
+          contexts-are = first (λ t. t.context) _ contexts _ (first-in d) d.layout.laid.count_is room.contexts_long;
+          symbols-are = first (symbol_in x) _ symbols _ (first-in d) split.symbol_is room.symbols_long;
+          extra-are = first (extra_in x) _ extra _ (first-in d) split.extra_is room.extra_long;
+          bits_are = first (bits_in x) _ bits _ (first-in d) split.bits_are room.bits_long;
         };
         room = set-room _ _ _ _ room;
       }

@@ -321,3 +321,9 @@ so-far-pair {least = least} {r = r} h w size elsewhere more =
     let one : 2 * (r + 1 - r) ≡ 2 = omega arith in
     let step : 2 * (r + 1 - least) ≡ 2 * (r - least) + 2 = omega (arith, w.from) in
     so_far_more (le_refl r) h w size (rw one elsewhere) (λ v. rw step (more v))
+
+-- there is room for the next pair
+pub so-far-room : {book : Book} {x : Place} {levels : List ℤ} {next : List Float} {s : Span} {at least most r : ℕ} {row row' : List Float} {choices choices' : List ℕ}
+    → r ≤ most → SoFar book x levels next s at least most r row row' choices choices' → (2 * (most - least) + 1 < length row) × (at + 2 * (most - least) + 1 < length choices)
+    → (2 * (r - least) + 1 < length row') × (at + 2 * (r - least) + 1 < length choices')
+so-far-room h w room = (omega (arith, room.0, w.size, w.from), omega (arith, room.1, w.elsewhere.size, w.from))

@@ -29,12 +29,18 @@ use Rattle.trellis_row.specs.declared.row.Span.{Span}
 use Rattle.trellis_row.specs.declared.row.States.{States}
 use Rattle.trellis_row.proofs.Rows.{not-below, nonzero-tail-cost, zero-tail-cost}
 use Rattle.trellis_sole.specs.Sole.{sole_tail, sole_chosen, sole_states, token_in, TokenIs, SoleReady}
+use Rattle.candidates.specs.declared.Candidates.{Candidates}
+use Rattle.steps.specs.Plan.{listed, Usable}
+use Rattle.steps.proofs.Listed.{listed-length, listed_at}
 
 -- the list of one candidate
 pub one-of : (levels : List ℤ) → length levels ≡ 1 → levels ≡ get_or levels 0 (pos 0) ∷ []
 one-of [] e = absurd (omega arith)
 one-of (q ∷ []) e = refl
 one-of (q ∷ r ∷ qs) e = absurd (omega arith)
+
+pub listed-one : {c : Candidates} → Usable c → c.count ≡ 1 → listed c ≡ get_or c.levels 0 (pos 0) ∷ []
+listed-one {c} u e = one-of (listed c) (listed-length u ∙ e) ∙ ap (λ (q : ℤ). q ∷ []) (listed_at u 0 (rw e (lit< tt)))
 
 below_inf : (x : Float) → T (cost x) → cond (lt x (inf false)) x (inf false) ≡ x
 below_inf x C = go (lt x (inf false)) refl

@@ -3,7 +3,6 @@ use mathlib.Core.Bool.{true≢false}
 use Rattle.std.proofs.Common.{Err, arith}
 use Rattle.block.specs.Block as Block
 use Rattle.group_list.specs.Heads.{head_at, covered}
-use Rattle.group_list.proofs.Passed.{here_placed}
 use Rattle.group_run.specs.Block.{lent_with, settles}
 use Rattle.prices.specs.Contents.{contents}
 use Rattle.group_block.specs.Lists.{head_in, numbers_in, room_in}
@@ -13,8 +12,7 @@ use Rattle.group_block.proofs.settle_part.Goals as goal
 
 pub predicted_at-predicted-requires : goal.predicted_at-predicted-requires
 predicted_at-predicted-requires c =
-    let lists = c.args.lists.now in
-    (c.requires.index, (here_placed _ _ lists.passed _ c.requires.index, c.requires.cells_len))
+    (c.requires.listed.0, (c.requires.listed.1.0, c.requires.cells_len))
 
 pub returns-in_err-picked-clause-stepped : goal.returns-in_err-picked-clause-stepped
 unfolding head_at covered settles
@@ -35,7 +33,7 @@ write_count-requires c =
     let lists = a.lists.now in
     let h = head_in lists a.part.index in
     record {
-      i_bound = (c.requires.index, (here_placed _ _ lists.passed _ c.requires.index, c.requires.cells_len));
+      i_bound = (c.requires.listed.0, (c.requires.listed.1.0, c.requires.cells_len));
       count_bound =
           rw (← count-picked c.in_ok-picked.picked)
           (count-few h.half_width a.search (contents a.book.now) (block_from h (numbers_in lists a.levels.now) a.part.at a.part.n _ a.levels.now) (lent_with (part a.part.at a.part.n a.levels.now) (room_in a.room.now)) refl a.part.at a.part.n a.levels.now c.in_ok-picked.ensures.outcome);

@@ -23,7 +23,9 @@ returns-in_err-map_err-clause-outcome c =
     rw (told, refused.1) (refused-by-list _ _ _ _ _ _ (passes book c.in_ok-book.book.passed) number (λ none. omega (arith, number_positive stopped.refusal, none)))
 
 pub run_list-requires : goal.run_list-requires
-run_list-requires c = grid-none
+run_list-requires c =
+    let passed = rw (passed-of c.check_list.result _ c.in_ok-map_err.ensures.cases) at c.check_list.ensures in
+    record { passed = sym passed; grid = grid-none }
 
 pub returns-clause-outcome : goal.returns-clause-outcome
 returns-clause-outcome c =

@@ -3,22 +3,22 @@ use Rattle.std.proofs.Common.{Err, rules}
 use Prim.Native.Nat.{◌<◌}
 use native.Mathlib.Omega.{arith}
 use Rattle.group_list.specs.Heads.{head_at, blocks_in, covered}
-use Rattle.group_list.proofs.Passed.{here_placed}
+use Rattle.group_list.proofs.Passed.{here_placed, here_floats}
 use Rattle.group_calls.proofs.Looping.{few, looping-none, looping-all, looping-short, inside, looping-refused, looping-more}
 use Rattle.group_calls.proofs.Telling.{mapped-of, passed-of, answer-refused, answer-settles}
 use Rattle.group_calls.proofs.run_list.Goals as goal
 
 pub loop-index-init : goal.loop-index-init
-loop-index-init c = record { same = record { choices = refl; row_a = refl; row_b = refl }; looping = looping-none _ _ _ _ _ _ c.requires }
+loop-index-init c = record { same = record { choices = refl; row_a = refl; row_b = refl }; looping = looping-none _ _ _ _ _ _ c.requires.grid }
 
 pub overflow_cast-settled : goal.overflow_cast-settled
-overflow_cast-settled c = let lists = c.args.lists.now in record { fits = omega (arith, c.loop-index-test.true, few lists.words.now lists.reals.now lists.passed) }
+overflow_cast-settled c = let lists = c.args.lists.now in record { fits = omega (arith, c.loop-index-test.true, few lists.words.now lists.reals.now c.requires.passed) }
 
 pub size_at-n-requires : goal.size_at-n-requires
 size_at-n-requires c =
     let lists = c.args.lists.now in
     let more : c.loop-index.index < blocks_in lists.words.now = c.loop-index-test.true in
-    (more, here_placed lists.words.now lists.reals.now lists.passed c.loop-index.index more)
+    (more, here_placed lists.words.now lists.reals.now c.requires.passed c.loop-index.index more)
 
 pub enough-requires : goal.enough-requires
 enough-requires c =
@@ -35,7 +35,10 @@ unfolding head_at covered
 settle_part-requires c =
     let L = c.loop-index.invariant.looping in
     record {
-      index = c.loop-index-test.true;
+      listed = (
+        c.loop-index-test.true,
+        (here_placed _ _ c.requires.passed _ c.loop-index-test.true, here_floats _ _ c.requires.passed _ c.loop-index-test.true),
+      );
       n_is_size = c.size_at-n.ensures;
       lent = inside _ _ _ _ _ _ L c.loop-index-test.true c.size_at-n.ensures c.enough.ensures c.if-not-enough.false;
       cells_len = L.grid.long;
@@ -69,7 +72,7 @@ loop-index-preserved c =
     }
 
 pub overflow_cast-result : goal.overflow_cast-result
-overflow_cast-result c = let lists = c.args.lists.now in record { fits = omega (arith, c.loop-index.invariant.looping.upto, few lists.words.now lists.reals.now lists.passed) }
+overflow_cast-result c = let lists = c.args.lists.now in record { fits = omega (arith, c.loop-index.invariant.looping.upto, few lists.words.now lists.reals.now c.requires.passed) }
 
 pub returns-clause-ran : goal.returns-clause-ran
 returns-clause-ran c =

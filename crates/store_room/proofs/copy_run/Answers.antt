@@ -1,5 +1,11 @@
-use Rattle.store_room.proofs.Packing.{run-put}
+use mathlib.Core.Path.{sym}
+use native.Mathlib.Omega.{arith}
+use Rattle.store_record.proofs.Placed.{placed-none, copied_more}
 use Rattle.store_room.proofs.copy_run.Goals as goal
 
-pub returns : goal.returns
-returns c = run-put c.args.at c.args.start c.args.n c.args.from.now c.args.to.now c.requires.0 c.copy_from_slice.ensures.after
+pub loop-i-init : goal.loop-i-init
+loop-i-init c = sym (placed-none _ _)
+
+pub loop-i-preserved : goal.loop-i-preserved
+loop-i-preserved c =
+    copied_more c.args.at c.args.start c.loop-i.i c.args.from.now _ (omega arith) (omega arith) c.loop-i.invariant

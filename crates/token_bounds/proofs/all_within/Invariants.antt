@@ -7,5 +7,4 @@ use Rattle.token_bounds.proofs.all_within.Given as given
 
 abbrev pub invariant-loop-k : given.invariant-loop-k
 invariant-loop-k l =
-    let d = l.fn.coded in
-    all_within (levels_from d.scan.now d.levels.now d.layout.covered (length d.scan.now - d.layout.covered)) ≡ all_within (levels_from d.scan.now d.levels.now l.k (length d.scan.now - l.k))
+    all_within (levels_from l.fn.scan l.fn.levels l.fn.layout.covered (length l.fn.scan - l.fn.layout.covered)) ≡ all_within (levels_from l.fn.scan l.fn.levels l.k (length l.fn.scan - l.k))

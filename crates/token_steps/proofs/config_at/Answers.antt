@@ -1,4 +1,3 @@
-use Rattle.coding.proofs.Passed.{coded-in}
 use Rattle.prices.specs.Book.{cluster_valid}
 use Rattle.token_steps.proofs.Splits.{valid-at}
 use Rattle.token_steps.proofs.config_at.Goals as goal
@@ -11,5 +10,5 @@ returns c =
       split_exponent_is = e.split_exponent_value;
       msb_is = e.msb_in_token_value;
       lsb_is = e.lsb_in_token_value;
-      valid = rw (e.split_exponent_value, e.msb_in_token_value, e.lsb_in_token_value) (valid-at (coded-in c.args.code.now) c.args.context c.requires);
+      valid = rw (e.split_exponent_value, e.msb_in_token_value, e.lsb_in_token_value) (valid-at c.requires.coded c.args.context c.requires.context_bound);
     }

@@ -1,10 +1,8 @@
-use Rattle.std.proofs.Common.{arith}
-use Rattle.block_tokens.specs.Tokens.{level_context}
+use Rattle.std.proofs.Common.{◌∙◌}
+use Rattle.token_steps.proofs.Walk.{context-by}
 use Rattle.token_steps.proofs.context_at.Goals as goal
 
 pub returns : goal.returns
-unfolding level_context
 returns c =
-    let laid = c.args.layout.laid in
-    let density = c.zero_density_context.ensures in
-    (rw (density.0, laid.offset_is, laid.covered_is), omega (arith, laid.offset_most, density.1))
+    let context = c.context_in.ensures in
+    (context.0 ∙ context-by c.numbers.result (rw c.numbers.ensures c.args.layout.laid) c.args.left c.args.k c.args.prev, context.1)

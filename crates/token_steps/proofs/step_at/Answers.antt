@@ -1,19 +1,8 @@
-use Rattle.std.proofs.Common.{◌≡◌, ◌≤◌, ap, ◌∙◌}
-use native.Mathlib.Nat.{le_trans}
-use lib.Dec.{lit≤}
-use lib.IntN.{ℤ, nat_abs}
-use mir.Syntax.{w32}
-use mir.Val.{of_z, to_z}
-use Rattle.candidates.proofs.Levels.{in-back}
-use Rattle.packing.specs.Signed.{pack_signed}
-use Rattle.packing.proofs.Signed.{packed-small}
+use Rattle.token_steps.proofs.Walk.{token-by}
 use Rattle.token_steps.proofs.step_at.Goals as goal
 
--- the level as it is handed on
-back : {v w : ℤ} → v ≡ w → nat_abs w ≤ 32768 → to_z w32 (of_z w32 v) ≡ w
-back {v} {w} e small = ap (λ (z : ℤ). to_z w32 (of_z w32 z)) e ∙ in-back w small
-
-pub split_in-split-requires : goal.split_in-split-requires
-split_in-split-requires c =
-    let packed = c.pack_signed.ensures ∙ ap pack_signed (back c.level_at-level.ensures c.requires.small) in
-    record { context_bound = (c.context_at-context.ensures.1, rw packed (le_trans (packed-small _ c.requires.small) (lit≤ tt))) }
+pub returns : goal.returns
+returns c =
+    let d = c.args.coded.now in
+    let token = token-by c.numbers.result (rw c.numbers.ensures d.layout.laid) d.scan.now d.levels.now c.args.k c.args.left c.args.prev in
+    rw token at c.token_at.ensures

@@ -1,6 +1,6 @@
 use Rattle.steps.proofs.Spots.{placed}
 use Rattle.steps.proofs.Zero.{current-back}
-use Rattle.steps.proofs.plan.Plan.place.Goals as goal
+use Rattle.steps.proofs.plan.PlanParts.place.Goals as goal
 
 pub returns : goal.returns
 returns c =

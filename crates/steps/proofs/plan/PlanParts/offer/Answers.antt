@@ -2,7 +2,7 @@ use lib.Dec.{ltb}
 use Rattle.steps.proofs.Spots.{offered, filled-usable}
 use mathlib.Core.Path.{refl}
 use Rattle.steps.proofs.Zero.{handed-current, handed-back}
-use Rattle.steps.proofs.plan.Plan.offer.Goals as goal
+use Rattle.steps.proofs.plan.PlanParts.offer.Goals as goal
 
 pub list_candidates-requires : goal.list_candidates-requires
 list_candidates-requires c =

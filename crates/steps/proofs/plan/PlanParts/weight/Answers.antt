@@ -3,7 +3,7 @@ use mathlib.Core.Path.{◌≡◌, sym, ap, ◌∙◌}
 use native.Mathlib.Omega.{arith}
 use Rattle.weights.specs.Weights.{distortion_weight}
 use lib.Ieee.{mul, binary32}
-use Rattle.steps.proofs.plan.Plan.weight.Goals as goal
+use Rattle.steps.proofs.plan.PlanParts.weight.Goals as goal
 
 pub returns-then-i-self : goal.returns-then-i-self
 returns-then-i-self c = λ _. c.position_weight.ensures
