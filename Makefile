@@ -1,4 +1,4 @@
-# make test       the whole gate: layout, proofs, must-fail edits, programs; then the bindings and a short comparison, where their tools are at hand
+# make test       the whole gate: layout, proofs, must-fail edits, programs, the sample without a proof; then the bindings and a short comparison, where their tools are at hand
 # make quick      for the desk, not the verdict: what changed and what stands above it is proved; no edits, no programs
 # make run        the main program on a sample; before it is proved, the same sources built without a proof
 # make prove      proves the main program and what it stands on, a line for each crate

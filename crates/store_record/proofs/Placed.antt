@@ -1,11 +1,11 @@
 -- Laws of numbers written over a part of a list. Assumes nothing.
-use Prim.Native.Nat.{ℕ, zero, suc, ◌+◌, ◌-◌, ◌<◌, ◌≤◌}
+use Prim.Native.Nat.{ℕ, suc, ◌+◌, ◌-◌, ◌<◌, ◌≤◌}
 use mathlib.Core.Path.{◌≡◌, refl, sym, ap, ap₂, subst, ◌∙◌}
-use mathlib.Core.List.{List, [], ◌∷◌, ◌++◌, append_assoc, append-nil}
+use mathlib.Core.List.{List, [], ◌∷◌, ◌++◌, append_assoc}
 use native.Mathlib.Omega.{arith}
 use native.Mathlib.Numerals.{add-one}
-use lib.ListN.{length, get_or, take, drop, set, length-append, length-drop, take-append-drop, get_or-append}
-use lib.Seq.{length-take-le, take-append-le, drop-append-le, take_at, drop_at, drop-append-add, get_or-append-add, get_or-drop, set_at, drop-cons, drop-drop, take-take, take-suc, append_snoc}
+use lib.ListN.{length, get_or, take, drop, set, length-append, length-drop, take-append-drop}
+use lib.Seq.{length-take-le, take-append-le, drop-append-le, take_at, drop_at, drop-append-add, get_or-drop, set_at, drop-cons, drop-drop, take-suc}
 use Rattle.store_record.specs.Placed.{placed}
 
 pub placed-none : (at : ℕ) (zs : List ℕ) → placed at [] zs ≡ zs

@@ -52,13 +52,16 @@ module _ (t : Tokens) where
   other-lengths n = rw (ne_eqb (length t.values) (many t) n)
 
   module _ (e : length t.values ≡ many t) where
-    pub no-token : (i : ℕ) → i < many t → is_token i ≡ false → false ≡ are_tokens t
+    -- where both lists have one length the tokens decide
+    pub token-by-token : each (many t) is_token ≡ are_tokens t
     unfolding are_tokens
-    no-token i h f = rw (eq-eqb (length t.values) (many t) e, each-fails is_token (many t) i h f)
+    token-by-token = rw (eq-eqb (length t.values) (many t) e) refl
+
+    pub no-token : (i : ℕ) → i < many t → is_token i ≡ false → false ≡ are_tokens t
+    no-token i h f = sym (each-fails is_token (many t) i h f) ∙ token-by-token
 
     pub all-tokens : each (many t) is_token ≡ true → true ≡ are_tokens t
-    unfolding are_tokens
-    all-tokens f = rw (eq-eqb (length t.values) (many t) e, f)
+    all-tokens f = sym f ∙ token-by-token
 
   pub both-lists : length t.values ≡ many t → (each (length t.contexts) (λ i. leb (get_or t.contexts i 0) 14849) && each (length t.values) (λ i. leb (get_or t.values i 0) 131071)) ≡ are_tokens t
   unfolding are_tokens

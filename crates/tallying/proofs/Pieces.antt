@@ -32,7 +32,3 @@ module _ (t : Tokens) (same : length t.values ≡ many t) where
   with-piece s e h k =
       let all : e ≡ s + (e - s) = omega (arith, h) in
       ap (λ (n : ℕ). each n (is_token t)) all ∙ each-run (is_token t) s (e - s) ∙ ap (λ (b : Bool). each s (is_token t) && b) (sym (piece-passes s e h k))
-
-  pub all-pass : each (many t) (is_token t) ≡ are_tokens t
-  unfolding are_tokens
-  all-pass = rw (eq-eqb (length t.values) (many t) same) refl

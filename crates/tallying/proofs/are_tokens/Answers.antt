@@ -3,8 +3,8 @@ use Rattle.prices.specs.Checks.{each}
 use Rattle.prices.proofs.Each.{each-cut}
 use Rattle.std.proofs.Math.Bool.{and-false}
 use Rattle.tallying.specs.Uses.{tokens_of}
-use Rattle.tallying.proofs.Checks.{is_token, other-lengths}
-use Rattle.tallying.proofs.Pieces.{with-piece, all-pass}
+use Rattle.tallying.proofs.Checks.{is_token, other-lengths, token-by-token, all-tokens}
+use Rattle.tallying.proofs.Pieces.{with-piece}
 use Rattle.tallying.proofs.are_tokens.Goals as goal
 
 pub returns-then-values-n : goal.returns-then-values-n
@@ -26,7 +26,7 @@ returns-then-not-pass c =
     let few : end ≤ length c.args.contexts.now = omega (arith, c.min-end.ensures) in
     let order : start ≤ end = omega (arith, c.min-end.ensures, c.loop-piece-test.true) in
     let fails : each end (is_token t) ≡ false = with-piece t long start end order few ∙ ap (λ (b : Bool). each start (is_token t) && b) (sym c.pass.ensures ∙ c.if-not-pass.true) ∙ and-false (each start (is_token t)) in
-    sym (each-cut (is_token t) end (length c.args.contexts.now) few fails) ∙ all-pass t long
+    sym (each-cut (is_token t) end (length c.args.contexts.now) few fails) ∙ token-by-token t long
 
 pub loop-piece-preserved : goal.loop-piece-preserved
 loop-piece-preserved c =
@@ -47,4 +47,4 @@ returns c =
     let t = tokens_of c.args.contexts.now c.args.values.now in
     let n = length c.args.contexts.now in
     let all : min (c.loop-piece.piece * 64) n ≡ n = omega (arith, c.loop-piece-test.false) in
-    sym (subst (λ (m : ℕ). each m (is_token t) ≡ true) all c.loop-piece.invariant) ∙ all-pass t c.if-values-n.false
+    all-tokens t c.if-values-n.false (subst (λ (m : ℕ). each m (is_token t) ≡ true) all c.loop-piece.invariant)
