@@ -5,6 +5,7 @@ ghost use Rattle.std.specs.Prelude.{◌≡◌, length};
 ghost use Rattle.block_file.specs.Within.{BookInside, BlockInside};
 ghost use Rattle.block_lists.specs.Lengths.{BookHeld, lengths_in};
 ghost use Rattle.block_lists.specs.Copied.{with_book, with_block};
+ghost use Rattle.block_lists.specs.Zeros.{zeros};
 
 use block_file::load;
 use block_file::record::{
@@ -26,6 +27,28 @@ pub struct Lists {
     pub choices: [u8; CHOICES],
     pub row_a: [f32; ROW],
     pub row_b: [f32; ROW],
+}
+
+impl Lists {
+    // All zeros. (`level_search` makes its arrays in `main`: built without a proof, what a call hands back lies on the stack twice.)
+    pub fn new() -> Lists
+        ensures { result ≡ zeros }
+    {
+        Lists {
+            map: [0; MAP],
+            configs: [0; CONFIGS],
+            symbols: [0.0; SYMBOLS],
+            ready: [0.0; READY],
+            levels: [0; LEVELS],
+            scan: [0; LEVELS],
+            source: [0.0; LEVELS],
+            inv_qm: [0.0; LEVELS],
+            work: [0; LEVELS],
+            choices: [0; CHOICES],
+            row_a: [0.0; ROW],
+            row_b: [0.0; ROW],
+        }
+    }
 }
 
 // The latest book's number of clusters, and the lengths of its lists.
@@ -80,4 +103,24 @@ pub fn copy_block(bytes: &[u8], block: BlockRecord, lists: &mut Lists)
     load::take_list(bytes, block.scan, &mut lists.scan);
     load::take_list(bytes, block.source, &mut lists.source);
     load::take_list(bytes, block.inverse, &mut lists.inv_qm);
+}
+
+#[cfg(test)]
+mod tests {
+    use super::*;
+    use std::test::Fail;
+
+    // Some entries of a new value, first and last ones.
+    #[test]
+    fn new_is_all_zeros(rt: HostRuntime) -> Result<(), Fail> {
+        let lists = Lists::new();
+        assert_eq!(rt; lists.map[MAP - 1], 0);
+        assert_eq!(rt; lists.work[0], 0);
+        assert_eq!(rt; lists.work[LEVELS - 1], 0);
+        assert!(rt;
+            lists.row_b[ROW - 1] == 0.0,
+            "the last float of the last row is not 0"
+        );
+        Ok(())
+    }
 }
